@@ -1,0 +1,3 @@
+// The frame layer: what the bytes of a line say.
+pub mod fault;
+pub mod frame;
