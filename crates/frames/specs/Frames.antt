@@ -39,6 +39,14 @@ content (OrderA l r) = orderA l (r .now)
 content (OrderB l r) = orderB l (r .now)
 content (Closing m w) = closing m w
 
+abbrev pub kindOf : Content → ℕ
+kindOf (movement n p l s) = movementKind
+kindOf (pair a b g w) = pairKind
+kindOf (opening m s) = openingKind
+kindOf (orderA l r) = orderAKind
+kindOf (orderB l r) = orderBKind
+kindOf (closing m w) = closingKind
+
 abbrev pub meant : Result Frame FrameFault → Result Content FrameFault
 meant (Ok f) = Ok (content f)
 meant (Err e) = Err e

@@ -1,9 +1,8 @@
 ghost use mathlib.Core.Path.{_≡_};
-ghost use Rattle.frames.specs.Frames.{meant, frameOf, lineFrame, big2, big3, lengthFault};
+ghost use Rattle.frames.specs.Frames.{content, kindOf, meant, frameOf, lengthFault};
 use crate::fault::FrameFault;
-use crate::fault::FrameFromText;
-use lines::hex::MOST_BYTES;
-use lines::reader::Line;
+use crate::fields::three;
+use crate::fields::two;
 use stops::Fault;
 use stops::Stop;
 
@@ -22,32 +21,18 @@ pub const STEP_BYTES: usize = 5;
 pub const MOST_STEPS: usize = 24;
 
 // The place in a line of its first step, and of its first run.
-const STEPS_PLACE: usize = 4;
-const RUNS_PLACE: usize = 2;
+const STEPS_PLACE: u8 = 4;
+const RUNS_PLACE: u8 = 2;
 
 // What a line says, by its kind. Steps and runs are a part of the line's bytes, with the place where it begins.
 #[derive(Clone, Copy)]
 pub enum Frame<'a> {
-    Movement { number: u8, priority: u8, place: usize, steps: &'a [u8] },
+    Movement { number: u8, priority: u8, place: u8, steps: &'a [u8] },
     Pair { first: u8, second: u8, gap: u16, weight: u8 },
     Opening { movement: u8, seconds: u32 },
-    OrderA { place: usize, runs: &'a [u8] },
-    OrderB { place: usize, runs: &'a [u8] },
+    OrderA { place: u8, runs: &'a [u8] },
+    OrderB { place: u8, runs: &'a [u8] },
     Closing { movement: u8, window: u32 },
-}
-
-// Two bytes as a number, the most significant first.
-fn two(high: u8, low: u8) -> u16
-    ensures { λ r. ⌜ r ≡ big2 high low ⌝ }
-{
-    high as u16 * 256 + low as u16
-}
-
-// Three bytes as a number, the most significant first.
-fn three(high: u8, middle: u8, low: u8) -> u32
-    ensures { λ r. ⌜ r ≡ big3 high middle low ⌝ }
-{
-    high as u32 * 65536 + middle as u32 * 256 + low as u32
 }
 
 // A line whose length is not one of its kind; the place is its last byte.
@@ -58,6 +43,20 @@ fn wrong_length(line: usize, bytes: &[u8]) -> FrameFault
 }
 
 impl<'a> Frame<'a> {
+    // The number of the frame's kind.
+    pub fn kind(self) -> u8
+        ensures { λ r. ⌜ r ≡ kindOf (content (self .entry)) ⌝ }
+    {
+        match self {
+            Frame::Movement { .. } => MOVEMENT,
+            Frame::Pair { .. } => PAIR,
+            Frame::Opening { .. } => OPENING,
+            Frame::OrderA { .. } => ORDER_A,
+            Frame::OrderB { .. } => ORDER_B,
+            Frame::Closing { .. } => CLOSING,
+        }
+    }
+
     // The frame of a line's bytes.
     pub fn read(line: usize, bytes: &'a [u8]) -> Result<Frame<'a>, FrameFault>
         ensures { λ r. ⌜ meant r ≡ frameOf line (now (bytes .entry)) ⌝ }
@@ -86,12 +85,4 @@ impl<'a> Frame<'a> {
             _ => Err(FrameFault::Found(Fault { stop: Stop::UnknownKind, line, place: 1 })),
         }
     }
-}
-
-// The frame of a line: its digits are read into the buffer, and its bytes then name the frame.
-pub fn read_line<'b>(line: Line<'_>, buffer: &'b mut [u8; MOST_BYTES]) -> Result<Frame<'b>, FrameFault>
-    ensures { λ r. ⌜ meant r ≡ lineFrame (line .entry .number) (now (line .entry .part)) ⌝ }
-{
-    let count = line.decode(buffer)?;
-    Frame::read(line.number, &buffer[0..count])
 }

@@ -3,7 +3,7 @@ use mathlib.Core.Path.{_≡_, refl, sym, ap, _∙_}
 use mathlib.Core.Bool.{true, false}
 use mathlib.Core.List.{List, [], _∷_}
 use mathlib.Core.Logic.{⊎-elim}
-use Prim.Native.Nat.{ℕ, _<_}
+use Prim.Native.Nat.{ℕ, _<_, _≤_}
 use native.Mathlib.Omega.{arith}
 use lib.Dec.{eqb}
 use lib.ListN.{length}
@@ -28,6 +28,10 @@ some-line xs h = omega (arith, ap length (first-line xs h))
 joined-first : (x : ℕ) (ls : List (List ℕ)) → 0 < length ls → joined ended (withFirst x ls) ≡ x ∷ joined ended ls
 joined-first x [] h = absurd (omega arith)
 joined-first x (l ∷ ls) h = refl
+
+length-first : (x : ℕ) (ls : List (List ℕ)) → 0 < length ls → length (withFirst x ls) ≡ length ls
+length-first x [] h = absurd (omega arith)
+length-first x (l ∷ ls) h = refl
 
 lines-whole : (xs : List ℕ) → joined ended (linesOf xs) ≡ closed xs
 lines-whole [] = refl
@@ -56,3 +60,13 @@ lines-apart (x ∷ xs) =
 
 pub lines-cut : (text : List ℕ) → Lines text (linesOf text)
 lines-cut text = record { whole = lines-whole text; apart = lines-apart text }
+
+-- each line takes a character of the text at least
+pub lines-few : (xs : List ℕ) → length (linesOf xs) ≤ length xs
+lines-few [] = omega arith
+lines-few (x ∷ []) = cond-both (eqb x lineEnd) ([] ∷ []) ((x ∷ []) ∷ []) (λ ls. length ls ≤ 1) (λ _. omega arith) (λ _. omega arith)
+lines-few (x ∷ y ∷ xs) =
+    let more = lines-few (y ∷ xs) in
+    cond-both (eqb x lineEnd) ([] ∷ linesOf (y ∷ xs)) (withFirst x (linesOf (y ∷ xs))) (λ ls. length ls ≤ length (x ∷ y ∷ xs))
+    (λ _. omega arith)
+    (λ _. omega (arith, length-first x (linesOf (y ∷ xs)) (some-line (y ∷ xs) (omega arith))))

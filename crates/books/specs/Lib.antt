@@ -1,0 +1,5 @@
+pub mod Faults
+pub mod Held
+pub mod Lines
+pub mod Taking
+pub mod Reading

@@ -1,0 +1,91 @@
+-- The book of a text. Assumes nothing.
+use mathlib.Core.Path.{_≡_}
+use mathlib.Core.Bool.{cond}
+use mathlib.Core.List.{List, [], _∷_}
+use Prim.Native.Nat.{ℕ}
+use lib.Dec.{leb}
+use lib.ListN.{length, take, drop}
+use Rattle.std.specs.declared.result.Result.{Result}
+use Rattle.std.specs.declared.result.Result.the-variants.{Ok, Err}
+use Rattle.stops.specs.declared.Stop.the-variants.{TooLong}
+use Rattle.lines.specs.declared.fault.TextFault.{TextFault}
+use Rattle.lines.specs.Texts.{linesOf}
+use Rattle.lines.specs.Reading.{longestText, textFault}
+use Rattle.lines.specs.Hex.{lineBytes}
+use Rattle.frames.specs.declared.fault.FrameFault.{FrameFault}
+use Rattle.frames.specs.declared.fault.FrameFault.the-variants.{Text}
+use Rattle.frames.specs.declared.frame.Frame as Frames
+use Rattle.frames.specs.Frames.{Content, content, frameOf, lineFrame}
+use Rattle.books.specs.declared.fault.BookFault.{BookFault}
+use Rattle.books.specs.declared.fault.BookFault.the-variants.{Frame}
+use Rattle.books.specs.declared.memory.Memory.{Memory}
+use Rattle.books.specs.declared.state.Draft.{Draft}
+use Rattle.books.specs.declared.state.Book.{Book}
+use Rattle.books.specs.Held.{Drafted, Closed, empty, draftOf, bookOf}
+use Rattle.books.specs.Lines.{nextLine}
+use Rattle.books.specs.Taking.{step, closed}
+
+-- what the frame layer says; the book layer passes its fault on whole
+abbrev pub inBook : Result Content FrameFault → Result Content BookFault
+inBook (Ok c) = Ok c
+inBook (Err e) = Err (Frame e)
+
+-- what a frame says that was read
+abbrev pub known : Result (Frames.Frame) BookFault → Result Content BookFault
+known (Ok f) = Ok (content f)
+known (Err e) = Err e
+
+-- what a line that was read so makes of a draft
+abbrev pub stepWith : Drafted → Result Content BookFault → Result Drafted BookFault
+stepWith h (Ok c) = step h c
+stepWith h (Err f) = Err f
+
+-- what the front of a buffer says, where the line was decoded into it
+abbrev pub frameIn : ℕ → Result ℕ TextFault → List ℕ → Result Content BookFault
+frameIn line (Ok n) buffer = inBook (frameOf line (take n buffer))
+frameIn line (Err e) buffer = Err (Frame (Text e))
+
+-- a draft after one line of the text more
+abbrev pub lineStep : ℕ → Drafted → List ℕ → Result Drafted BookFault
+lineStep number h chars = stepWith h (inBook (lineFrame number chars))
+
+-- what a refused line leaves in the buffer: nothing where its characters are at fault, else the line's bytes stand in
+-- its front, as they do after a line that is taken
+abbrev pub Buffered : Result (List ℕ) TextFault → List ℕ → List ℕ → Type 0
+Buffered (Ok bs) old new = (take (length bs) new ≡ bs) × (drop (length bs) new ≡ drop (length bs) old)
+Buffered (Err e) old new = new ≡ old
+
+-- a reading that stopped: what the lines before the stop gave, and the fault
+pub record Stopped : Type 0 where
+  pub held : Drafted
+  pub fault : BookFault
+
+abbrev pub orStopped : {X : Type 0} → Drafted → Result X BookFault → Result X Stopped
+orStopped h (Ok x) = Ok x
+orStopped h (Err f) = Err (record { held = h; fault = f })
+
+-- one line more; after a stop no line is read
+abbrev pub further : Result Drafted Stopped → List ℕ → Result Drafted Stopped
+further (Ok h) l = orStopped h (lineStep (nextLine (h .lines)) h l)
+further (Err s) l = Err s
+
+-- line after line
+abbrev pub through : Result Drafted Stopped → List (List ℕ) → Result Drafted Stopped
+through r [] = r
+through r (l ∷ ls) = through (further r l) ls
+
+abbrev pub shut : Result Drafted Stopped → Result Closed Stopped
+shut (Ok h) = orStopped h (closed h)
+shut (Err s) = Err s
+
+-- the book of a text: its lines are taken one by one by a draft that begins empty, and the draft is closed
+abbrev pub textBook : List ℕ → Result Closed Stopped
+textBook text =
+    cond (leb (length text) longestText)
+    (shut (through (Ok empty) (linesOf text)))
+    (Err (record { held = empty; fault = Frame (Text (textFault TooLong 0 0)) }))
+
+-- a call that reads a text: a book, or the draft of the lines before the stop
+abbrev pub Answered : List ℕ → Result Book (Draft × BookFault) → Memory → Type 0
+Answered text (Ok b) m = textBook text ≡ Ok (bookOf b m)
+Answered text (Err e) m = textBook text ≡ Err (record { held = draftOf (e .0) m; fault = e .1 })
