@@ -64,3 +64,12 @@ impl Draft {
         let Draft { lines: _, last_kind: _, movements: _, runs_a: _, runs_b: _, closing: _ } = self;
     }
 }
+
+impl Book {
+    // How many lines the book has.
+    pub fn lines(&self) -> usize
+        ensures { λ r. ⌜ r ≡ now (self .entry) .lines ⌝ }
+    {
+        self.lines
+    }
+}
