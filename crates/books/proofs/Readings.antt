@@ -74,7 +74,7 @@ with-passed h h′ (Err f) e = absurd (let z : _≡_ {A = ℕ} 0 1 = cc in omega
 pub line-counted : (number : ℕ) (h h′ : Drafted) (chars : List ℕ) → lineStep number h chars ≡ Ok h′ → h′ .lines ≡ nextLine (h .lines)
 line-counted number h h′ chars e = let p = with-passed h h′ (inBook (lineFrame number chars)) e in ap (λ (x : Drafted). x .lines) (sym (p .2 .after))
 
-stopped : (s : Stopped) (ls : List (List ℕ)) → through (Err s) ls ≡ Err s
+pub stopped : (s : Stopped) (ls : List (List ℕ)) → through (Err s) ls ≡ Err s
 stopped s [] = refl
 stopped s (l ∷ ls) = stopped s ls
 

@@ -3,3 +3,4 @@ pub mod Held
 pub mod Lines
 pub mod Taking
 pub mod Reading
+pub mod Says

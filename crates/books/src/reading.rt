@@ -6,6 +6,7 @@ ghost use Rattle.lines.specs.Hex.{lineBytes};
 ghost use Rattle.books.specs.Held.{draftOf};
 ghost use Rattle.books.specs.Taking.{Taken};
 ghost use Rattle.books.specs.Reading.{lineStep, Buffered, Answered, frameIn, known};
+ghost use Rattle.books.specs.Says.{Faithful};
 use crate::fault::BookFault;
 use crate::fault::BookFromFrame;
 use crate::fault::BookFromText;
@@ -46,7 +47,8 @@ impl Draft {
 
 // Reads a whole text into a book; or answers the first fault, with the draft of the lines before it.
 pub fn read_book(text: &[u8], memory: &mut Memory) -> Result<Book, (Draft, BookFault)>
-    ensures { λ r. ⌜ Answered (now (text .entry)) r (now (memory .exit)) ⌝ }
+    ensures answer { λ r. ⌜ Answered (now (text .entry)) r (now (memory .exit)) ⌝ }
+    ensures faithful { λ r. ⌜ Faithful (now (text .entry)) r (now (memory .exit)) ⌝ }
 {
     let mut draft = Draft::begin(memory);
     if let Err(fault) = check_length(text) {

@@ -1,14 +1,14 @@
 -- What one turn of the loops over a line keeps. Assumes nothing.
 use mathlib.Core.Path.{_≡_, refl, sym, ap, _∙_}
-use mathlib.Core.Bool.{true, false}
+use mathlib.Core.Bool.{Bool, true, false, _&&_}
 use mathlib.Core.List.{List, [], _∷_, _++_, append-nil, append-assoc}
 use Prim.Native.Nat.{ℕ, _+_, _-_, _*_, _≤_, _<_}
 use native.Mathlib.Omega.{arith}
 use lib.ListN.{length, take, drop, getD, set}
-use Rattle.std.proofs.shelf.Lists.{take-more-set, drop-set-lt, drop-drop, at-drop-more}
-use Rattle.std.proofs.shelf.Tests.{cond-true, cond-false}
-use Rattle.std.specs.declared.option.Option.the-variants.{Some}
-use Rattle.lines.specs.Hex.{isHex, nibbleOf, badPlace, bytesOf, Spelt}
+use Rattle.std.proofs.shelf.Lists.{take-more-set, drop-set-lt, drop-drop, at-drop-more, at-drop-all}
+use Rattle.std.proofs.shelf.Tests.{cond-true, cond-false, and-parts}
+use Rattle.std.specs.declared.option.Option.the-variants.{Some, None}
+use Rattle.lines.specs.Hex.{isHex, allHex, nibbleOf, badPlace, bytesOf, Spelt}
 
 module _ (at : ℕ) (xs : List ℕ) (i : ℕ) (inside : i < length xs) where
   pub place-bad : isHex (getD xs i 0) ≡ false → badPlace at (drop i xs) ≡ Some at
@@ -16,6 +16,20 @@ module _ (at : ℕ) (xs : List ℕ) (i : ℕ) (inside : i < length xs) where
 
   pub place-good : isHex (getD xs i 0) ≡ true → badPlace at (drop i xs) ≡ badPlace (at + 1) (drop (i + 1) xs)
   place-good e = at-drop-more (badPlace at) xs i 0 inside ∙ cond-true (isHex (getD xs i 0)) _ _ e
+
+-- the test of what is left, joined to that of what was read
+pub all-on : (all : Bool) (xs : List ℕ) (i : ℕ) → i < length xs → (all && allHex (drop i xs)) ≡ ((all && isHex (getD xs i 0)) && allHex (drop (i + 1) xs))
+all-on true xs i inside = at-drop-more allHex xs i 0 inside
+all-on false xs i inside = refl
+
+pub all-done : (all : Bool) (xs : List ℕ) (i : ℕ) → length xs ≤ i → (all && allHex (drop i xs)) ≡ all
+all-done true xs i past = at-drop-all allHex xs i past
+all-done false xs i past = refl
+
+-- where all are digits no place is bad
+pub none-bad : (at : ℕ) (xs : List ℕ) → allHex xs ≡ true → badPlace at xs ≡ None
+none-bad at [] e = refl
+none-bad at (c ∷ cs) e = let p = and-parts (isHex c) (allHex cs) e in cond-true (isHex c) _ _ (p .0) ∙ none-bad (at + 1) cs (p .1)
 
 -- the bytes of the line's front are written, and `rest` is left to read
 pub record Sofar (line old : List ℕ) (at : ℕ) (rest buf : List ℕ) : Type 0 where

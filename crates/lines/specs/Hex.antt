@@ -1,6 +1,6 @@
 -- What the digits of a line spell. Assumes nothing.
 use mathlib.Core.Path.{_≡_}
-use mathlib.Core.Bool.{Bool, cond, _&&_, _||_}
+use mathlib.Core.Bool.{Bool, true, cond, _&&_, _||_}
 use mathlib.Core.List.{List, [], _∷_}
 use Prim.Native.Nat.{ℕ, _+_, _-_, _*_, _/_, _%_, _≤_}
 use lib.Dec.{eqb, leb}
@@ -28,6 +28,10 @@ isLetter c = leb 65 c && leb c 70
 
 abbrev pub isHex : ℕ → Bool
 isHex c = isDecimal c || isLetter c
+
+abbrev pub allHex : List ℕ → Bool
+allHex [] = true
+allHex (c ∷ cs) = isHex c && allHex cs
 
 -- what a digit stands for
 abbrev pub nibbleOf : ℕ → ℕ

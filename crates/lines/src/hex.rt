@@ -1,7 +1,7 @@
 ghost use mathlib.Core.Path.{_≡_};
 ghost use Prim.Native.Nat.{_+_, _*_, _<_, _≤_};
 ghost use lib.ListN.{length};
-ghost use Rattle.lines.specs.Hex.{isHex, nibbleOf, badPlace, bytesOf, Decoded, Spelt};
+ghost use Rattle.lines.specs.Hex.{isHex, allHex, nibbleOf, badPlace, bytesOf, Decoded, Spelt};
 use crate::fault::TextFault;
 use crate::reader::Line;
 use stops::Fault;
@@ -31,10 +31,24 @@ fn nibble(c: u8) -> u8
     }
 }
 
+// Whether every character is a digit. It looks at all of them, with no way out of the loop, which is the fast way.
+fn all_hex(line: &[u8]) -> bool
+    ensures { λ r. ⌜ r ≡ allHex (now (line .entry)) ⌝ }
+{
+    let mut all = true;
+    for c in line {
+        all &= is_hex(*c);
+    }
+    all
+}
+
 // The place, from 1, of the first character that is no digit.
 fn bad_place(line: &[u8]) -> Option<usize>
     ensures { λ r. ⌜ r ≡ badPlace 1 (now (line .entry)) ⌝ }
 {
+    if all_hex(line) {
+        return None;
+    }
     for (i, c) in line.iter().enumerate() {
         if !is_hex(*c) {
             return Some(i + 1);
