@@ -14,7 +14,7 @@ use Rattle.std.specs.declared.option.Option.the-variants.{Some}
 use Rattle.stops.specs.declared.Stop.the-variants.{OutOfSequence, OutOfRange, GivenBefore, NoSuchMovement, Full}
 use Rattle.frames.specs.Frames.{Content, movement, pair, opening, orderA, orderB, closing, kindOf}
 use Rattle.books.specs.declared.memory.Listed.{Listed}
-use Rattle.books.specs.Faults.{fault}
+use Rattle.stops.specs.Stops.{fault}
 use Rattle.books.specs.Held.{Entries, Drafted, listed, opened}
 use Rattle.books.specs.Lines.{given, listedOf}
 use Rattle.books.specs.Taking.{passed, stopIf, within, fieldsCheck}
@@ -95,24 +95,24 @@ module _ (line : ℕ) (cs : List Content) (h : Drafted) (sofar : Sofar cs (h .en
   pair-found c d k v there =
       ⊎-elim
       (λ before.
-        let old = sofar .gives .pairs c d k v before in
-        let low = sofar .pair-lows c d k v before in
-        other c d (low .0) (low .1) (λ same. pair-fresh line h a b g w ok (listedOf k v) ((λ i. listed e (sym (same .0) i) (sym (same .1) i)) ∙ old)) ∙ old)
+      let old = sofar .gives .pairs c d k v before in
+      let low = sofar .pair-lows c d k v before in
+      other c d (low .0) (low .1) (λ same. pair-fresh line h a b g w ok (listedOf k v) ((λ i. listed e (sym (same .0) i) (sym (same .1) i)) ∙ old)) ∙ old)
       (λ is.
-        let c-is : c ≡ a = cc in
-        let d-is : d ≡ b = cc in
-        let k-is : g ≡ k = cc in
-        let v-is : w ≡ v = cc in
-        (λ i. listed (given e (pair a b g w)) (c-is i) (d-is i)) ∙ here ∙ (λ i. Some (listedOf (k-is i) (v-is i))))
+      let c-is : c ≡ a = cc in
+      let d-is : d ≡ b = cc in
+      let k-is : g ≡ k = cc in
+      let v-is : w ≡ v = cc in
+      (λ i. listed (given e (pair a b g w)) (c-is i) (d-is i)) ∙ here ∙ (λ i. Some (listedOf (k-is i) (v-is i))))
       (among-split (pair c d k v) (pair a b g w) cs there)
 
   pub no-other-pair : (c d : ℕ) (l : Listed) → 1 ≤ c → 1 ≤ d → listed (given e (pair a b g w)) c d ≡ Some l → Among (pair c d (l .gap) (l .weight)) (cs ++ pair a b g w ∷ [])
   no-other-pair c d l c-low d-low is =
       ⊎-elim
       (λ (both : (c ≡ a) × (d ≡ b)).
-        let given-is : Some (listedOf g w) ≡ Some l = sym here ∙ (λ i. listed (given e (pair a b g w)) (sym (both .0) i) (sym (both .1) i)) ∙ is in
-        let l-is : listedOf g w ≡ l = cc in
-        subst (λ x. Among x (cs ++ pair a b g w ∷ [])) (λ i. pair (sym (both .0) i) (sym (both .1) i) (l-is i .gap) (l-is i .weight)) (among-last (pair a b g w) cs))
+      let given-is : Some (listedOf g w) ≡ Some l = sym here ∙ (λ i. listed (given e (pair a b g w)) (sym (both .0) i) (sym (both .1) i)) ∙ is in
+      let l-is : listedOf g w ≡ l = cc in
+      subst (λ x. Among x (cs ++ pair a b g w ∷ [])) (λ i. pair (sym (both .0) i) (sym (both .1) i) (l-is i .gap) (l-is i .weight)) (among-last (pair a b g w) cs))
       (λ apart. among-more _ (pair a b g w) cs (sofar .gives .noOtherPairs c d l c-low d-low (sym (other c d c-low d-low apart) ∙ is)))
       (both-or c a d b)
 
@@ -138,21 +138,21 @@ module _ (line : ℕ) (cs : List Content) (h : Drafted) (sofar : Sofar cs (h .en
   opening-found k t there =
       ⊎-elim
       (λ before.
-        let old = sofar .gives .openings k t before in
-        opened-other k (sofar .opening-lows k t before) (λ same. opening-fresh line h m s ok t (ap (opened (h .entries)) (sym same) ∙ old)) ∙ old)
+      let old = sofar .gives .openings k t before in
+      opened-other k (sofar .opening-lows k t before) (λ same. opening-fresh line h m s ok t (ap (opened (h .entries)) (sym same) ∙ old)) ∙ old)
       (λ is.
-        let k-is : k ≡ m = cc in
-        let t-is : s ≡ t = cc in
-        ap (opened (given (h .entries) (opening m s))) k-is ∙ opened-here ∙ ap Some t-is)
+      let k-is : k ≡ m = cc in
+      let t-is : s ≡ t = cc in
+      ap (opened (given (h .entries) (opening m s))) k-is ∙ opened-here ∙ ap Some t-is)
       (among-split (opening k t) (opening m s) cs there)
 
   pub no-other-opening : (k t : ℕ) → 1 ≤ k → opened (given (h .entries) (opening m s)) k ≡ Some t → Among (opening k t) (cs ++ opening m s ∷ [])
   no-other-opening k t low is =
       ⊎-elim
       (λ (same : k ≡ m).
-        let given-is : Some s ≡ Some t = sym opened-here ∙ ap (opened (given (h .entries) (opening m s))) (sym same) ∙ is in
-        let t-is : s ≡ t = cc in
-        subst (λ x. Among x (cs ++ opening m s ∷ [])) (λ i. opening (sym same i) (t-is i)) (among-last (opening m s) cs))
+      let given-is : Some s ≡ Some t = sym opened-here ∙ ap (opened (given (h .entries) (opening m s))) (sym same) ∙ is in
+      let t-is : s ≡ t = cc in
+      subst (λ x. Among x (cs ++ opening m s ∷ [])) (λ i. opening (sym same i) (t-is i)) (among-last (opening m s) cs))
       (λ apart. among-more _ (opening m s) cs (sofar .gives .noOtherOpenings k t low (sym (opened-other k low apart) ∙ is)))
       (cases-eq k m)
 

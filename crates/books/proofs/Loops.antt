@@ -11,7 +11,7 @@ use Rattle.std.specs.declared.result.Result.the-variants.{Ok, Err}
 use Rattle.stops.specs.declared.Stop.the-variants.{OutOfRange, GivenBefore, NoSuchMovement, Full}
 use Rattle.books.specs.declared.memory.Step.{Step}
 use Rattle.books.specs.declared.memory.Run.{Run}
-use Rattle.books.specs.Faults.{fault}
+use Rattle.stops.specs.Stops.{fault}
 use Rattle.books.specs.Lines.{stepOf, stepsOf, runOf, runsOf}
 use Rattle.books.specs.Taking.{within, uses, stepsCheck, runsCheck, passed}
 

@@ -39,18 +39,18 @@ module _ (t : List (List (Option Listed))) (a b : ℕ) (x : Option Listed) (a-lo
   at-other c d b-low c-low d-low apart =
       ⊎-elim
       (λ same.
-        let ne : d - 1 ≢ b - 1 = (λ e. apart (same, omega arith)) in
-        ap (λ k. at (written t a b x) k d) same ∙ at-row d ∙ getD-set-other (getD t (a - 1) []) (b - 1) (d - 1) x None ne ∙ ap (λ k. at t k d) (sym same))
+      let ne : d - 1 ≢ b - 1 = (λ e. apart (same, omega arith)) in
+      ap (λ k. at (written t a b x) k d) same ∙ at-row d ∙ getD-set-other (getD t (a - 1) []) (b - 1) (d - 1) x None ne ∙ ap (λ k. at t k d) (sym same))
       (λ differ.
-        let ne : c - 1 ≢ a - 1 = (λ e. differ (omega arith)) in
-        ap (λ r. getD r (d - 1) None) (getD-set-other t (a - 1) (c - 1) (set (getD t (a - 1) []) (b - 1) x) [] ne))
+      let ne : c - 1 ≢ a - 1 = (λ e. differ (omega arith)) in
+      ap (λ r. getD r (d - 1) None) (getD-set-other t (a - 1) (c - 1) (set (getD t (a - 1) []) (b - 1) x) [] ne))
       (cases-eq c a)
 
   rows-stay : (n : ℕ) → ((k : ℕ) → k < n → length (getD t k []) ≡ n) → (k : ℕ) → k < n → length (getD (written t a b x) k []) ≡ n
   rows-stay n rows k inside =
       ⊎-elim
       (λ (same : k ≡ a - 1).
-        ap (λ i. length (getD (written t a b x) i [])) same ∙ ap length (getD-set-same t (a - 1) (set (getD t (a - 1) []) (b - 1) x) [] a-high) ∙ length-set (getD t (a - 1) []) (b - 1) x ∙ ap (λ i. length (getD t i [])) (sym same) ∙ rows k inside)
+      ap (λ i. length (getD (written t a b x) i [])) same ∙ ap length (getD-set-same t (a - 1) (set (getD t (a - 1) []) (b - 1) x) [] a-high) ∙ length-set (getD t (a - 1) []) (b - 1) x ∙ ap (λ i. length (getD t i [])) (sym same) ∙ rows k inside)
       (λ differ. ap length (getD-set-other t (a - 1) k (set (getD t (a - 1) []) (b - 1) x) [] differ) ∙ rows k inside)
       (cases-eq k (a - 1))
 

@@ -28,7 +28,7 @@ use Rattle.books.specs.declared.memory.Closing.{Closing}
 use Rattle.books.specs.declared.memory.Memory.{Memory}
 use Rattle.books.specs.declared.state.Draft.{Draft}
 use Rattle.books.specs.declared.state.Book.{Book}
-use Rattle.books.specs.Faults.{fault}
+use Rattle.stops.specs.Stops.{fault}
 use Rattle.books.specs.Held.{Drafted, Closed, empty, draftOf, bookOf, listed, opened}
 use Rattle.books.specs.Lines.{nextLine, added, closingAfter}
 use Rattle.books.specs.Taking.{passed, early, partFits, partPlace, kindCheck, closed, withClosing, Shut}
@@ -84,12 +84,12 @@ after-more : (cs : List Content) (h h′ : Drafted) (c : Content) → After cs h
 after-more cs h h′ c after p =
     let none = closing-yet cs h c after (p .kind) in
     let made : After (cs ++ c ∷ []) (added h c) =
-        record {
-          entries = sofar-more (nextLine (h .lines)) cs h c (after .entries) (p .fields);
-          closes = joined-push closingIn cs c ∙ ap (λ t. t ++ closingIn c) (after .closes ∙ ap listOf none) ∙ sym (closing-given c) ∙ ap (λ o. listOf (closingAfter o c)) (sym none);
-          open-yet = (λ other. ap (λ o. closingAfter o c) none ∙ closing-none c other);
-          counts = omega (arith, after .counts, length-push cs c);
-        } in
+    record {
+      entries = sofar-more (nextLine (h .lines)) cs h c (after .entries) (p .fields);
+      closes = joined-push closingIn cs c ∙ ap (λ t. t ++ closingIn c) (after .closes ∙ ap listOf none) ∙ sym (closing-given c) ∙ ap (λ o. listOf (closingAfter o c)) (sym none);
+      open-yet = (λ other. ap (λ o. closingAfter o c) none ∙ closing-none c other);
+      counts = omega (arith, after .counts, length-push cs c);
+    } in
     subst (After (cs ++ c ∷ [])) (p .after) made
 
 -- a reading that comes to its end took each line
@@ -114,11 +114,10 @@ lines-after (l ∷ ls) cs h h′ after room e =
     let c = p .0 in
     let number : nextLine (h .lines) ≡ length cs + 1 = omega (arith, after .counts) in
     let more = length-push cs c in
-    let rest = lines-after ls (cs ++ c ∷ []) (on .0) h′ (after-more cs h (on .0) c after (p .2)) (omega arith) (on .2) in
-    (
+    let rest = lines-after ls (cs ++ c ∷ []) (on .0) h′ (after-more cs h (on .0) c after (p .2)) (omega arith) (on .2) in (
       c ∷ rest .0,
       (ap (λ n. lineFrame n l) (sym number) ∙ in-frame (lineFrame (nextLine (h .lines)) l) c (p .1), subst (λ n. ReadAs (n + 1) ls (rest .0)) more (rest .1)),
-      subst (λ x. After x h′) (append-assoc cs (c ∷ []) (rest .0)) (rest .2)
+      subst (λ x. After x h′) (append-assoc cs (c ∷ []) (rest .0)) (rest .2),
     )
 
 no-row : (k : ℕ) → k < 64 → length (getD (empty .entries .table) k []) ≡ 64

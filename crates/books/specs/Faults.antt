@@ -1,6 +1,4 @@
 -- What a fault of a reading says: the layer that found it, and the stop with its line and place. Assumes nothing.
-use Prim.Native.Nat.{ℕ}
-use Rattle.stops.specs.declared.Stop.{Stop}
 use Rattle.stops.specs.declared.Fault.{Fault}
 use Rattle.stops.specs.declared.Layer.{Layer}
 use Rattle.stops.specs.declared.Layer.the-variants as layers
@@ -17,7 +15,3 @@ abbrev pub foundOf : BookFault → Fault
 foundOf (Frame (frames.Text f)) = f .found
 foundOf (Frame (frames.Found f)) = f
 foundOf (Found f) = f
-
--- a stop, the line and the place where it was found
-abbrev pub fault : Stop → ℕ → ℕ → Fault
-fault s l p = record { stop = s; line = l; place = p }

@@ -13,7 +13,7 @@ use Rattle.std.specs.declared.result.Result.the-variants.{Ok, Err}
 use Rattle.stops.specs.declared.Stop.{Stop}
 use Rattle.stops.specs.declared.Stop.the-variants.{WrongLength, OutOfSequence, OutOfRange, GivenBefore, NoSuchMovement, Full, Unfinished}
 use Rattle.stops.specs.declared.Fault.{Fault}
-use Rattle.frames.specs.Kinds.{closingKind, movementLength, orderLength}
+use Rattle.frames.specs.Kinds.{closingKind, stepsLength, orderLength}
 use Rattle.frames.specs.Frames.{Content, movement, pair, opening, orderA, orderB, closing, kindOf}
 use Rattle.books.specs.declared.fault.BookFault.{BookFault}
 use Rattle.books.specs.declared.fault.BookFault.the-variants.{Found}
@@ -22,7 +22,7 @@ use Rattle.books.specs.declared.memory.Closing.{Closing}
 use Rattle.books.specs.declared.memory.Memory.{Memory}
 use Rattle.books.specs.declared.state.Draft.{Draft}
 use Rattle.books.specs.declared.state.Book.{Book}
-use Rattle.books.specs.Faults.{fault}
+use Rattle.stops.specs.Stops.{fault}
 use Rattle.books.specs.Held.{Drafted, Closed, listed, opened, draftOf, bookOf}
 use Rattle.books.specs.Lines.{stepsOf, nextLine, added}
 
@@ -116,7 +116,7 @@ early last kind = ltb kind last || (eqb kind closingKind && eqb last closingKind
 
 -- a frame of the frame layer always has 1 to 24 whole steps, or 1 or more runs; one made by hand may not
 abbrev pub partFits : Content → Bool
-partFits (movement m p l s) = movementLength (3 + length s)
+partFits (movement m p l s) = stepsLength (length s)
 partFits (pair a b g w) = true
 partFits (opening m s) = true
 partFits (orderA l r) = orderLength (1 + length r)

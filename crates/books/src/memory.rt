@@ -6,6 +6,7 @@ pub mod calls;
 
 // A book has at most this many movements, and each of its orders at most this many runs.
 pub const MOST_MOVEMENTS: usize = 64;
+
 pub const MOST_RUNS: usize = 512;
 
 // One section of a movement's way: it is set so many seconds after the movement's start, and released so many after.

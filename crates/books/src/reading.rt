@@ -21,7 +21,11 @@ use lines::reader::Reader;
 use lines::reader::calls::check_length;
 
 // The frame of a line that was decoded into the buffer; a fault of a lower layer is passed on whole.
-fn decoded_frame<'b>(line: usize, decoded: Result<usize, TextFault>, buffer: &'b [u8; MOST_BYTES]) -> Result<Frame<'b>, BookFault>
+fn decoded_frame<'b>(
+    line: usize,
+    decoded: Result<usize, TextFault>,
+    buffer: &'b [u8; MOST_BYTES],
+) -> Result<Frame<'b>, BookFault>
     requires { ⌜ made decoded (λ n. n ≤ 123) ⌝ }
     ensures { λ r. ⌜ known r ≡ frameIn line decoded (now (buffer .entry)) ⌝ }
 {
@@ -33,7 +37,12 @@ fn decoded_frame<'b>(line: usize, decoded: Result<usize, TextFault>, buffer: &'b
 impl Draft {
     // Takes a line of the text: its digits are read into the buffer, its bytes are named as a frame, and the frame is
     // taken. A refusal gives the draft back as it was, and the memory too.
-    pub fn take_line(self, memory: &mut Memory, line: Line<'_>, buffer: &mut [u8; MOST_BYTES]) -> Result<Draft, (Draft, BookFault)>
+    pub fn take_line(
+        self,
+        memory: &mut Memory,
+        line: Line<'_>,
+        buffer: &mut [u8; MOST_BYTES],
+    ) -> Result<Draft, (Draft, BookFault)>
         ensures taken { λ r. ⌜ Taken (lineStep (line .entry .number) (draftOf self (now (memory .entry))) (now (line .entry .part))) self (now (memory .entry)) r (now (memory .exit)) ⌝ }
         ensures buffer { λ _. ⌜ Buffered (lineBytes (line .entry .number) (now (line .entry .part))) (now (buffer .entry)) (now (buffer .exit)) ⌝ }
     {

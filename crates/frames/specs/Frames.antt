@@ -8,6 +8,7 @@ use Rattle.std.specs.declared.result.Result.{Result}
 use Rattle.std.specs.declared.result.Result.the-variants.{Ok, Err}
 use Rattle.stops.specs.declared.Stop.{Stop}
 use Rattle.stops.specs.declared.Stop.the-variants.{UnknownKind, WrongLength}
+use Rattle.stops.specs.Stops.{fault}
 use Rattle.lines.specs.declared.fault.TextFault.{TextFault}
 use Rattle.lines.specs.Hex.{lineBytes}
 use Rattle.frames.specs.declared.frame.Frame.{Frame}
@@ -64,7 +65,7 @@ byte bs i = getD bs i 0
 
 -- a fault of the frame layer
 abbrev pub frameFault : Stop → ℕ → ℕ → FrameFault
-frameFault s l p = Found (record { stop = s; line = l; place = p })
+frameFault s l p = Found (fault s l p)
 
 -- the place of a wrong length is the last byte
 abbrev pub lengthFault : ℕ → List ℕ → FrameFault

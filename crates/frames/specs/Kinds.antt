@@ -1,6 +1,6 @@
 -- The kinds of line and the lengths that each has. Assumes nothing.
 use mathlib.Core.Bool.{Bool, false, cond, _&&_}
-use Prim.Native.Nat.{ℕ, _%_}
+use Prim.Native.Nat.{ℕ, _-_, _%_}
 use lib.Dec.{eqb, leb}
 
 -- the first byte of a line names its kind
@@ -22,9 +22,13 @@ orderBKind = 5
 abbrev pub closingKind : ℕ
 closingKind = 6
 
--- kind, number and priority, then five bytes for each of 1 to 24 steps
+-- five bytes for each of 1 to 24 steps
+abbrev pub stepsLength : ℕ → Bool
+stepsLength n = eqb (n % 5) 0 && leb 5 n && leb n 120
+
+-- kind, number and priority, then steps
 abbrev pub movementLength : ℕ → Bool
-movementLength n = leb 8 n && leb n 123 && eqb (n % 5) 3
+movementLength n = leb 3 n && stepsLength (n - 3)
 
 -- kind, first, second, two bytes of gap, weight
 abbrev pub pairLength : ℕ → Bool

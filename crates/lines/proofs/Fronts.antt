@@ -41,5 +41,5 @@ drop-past [] = refl
 drop-past (x ∷ xs) =
     let within = front-within xs in
     let on : drop (min (length (x ∷ xs)) (length (x ∷ front xs) + 1)) (x ∷ xs) ≡ after xs =
-        ap (λ k. drop k (x ∷ xs)) (past-more (length xs) (length (front xs))) ∙ drop-past xs in
+    ap (λ k. drop k (x ∷ xs)) (past-more (length xs) (length (front xs))) ∙ drop-past xs in
     grind (arith, tells)

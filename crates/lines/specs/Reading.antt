@@ -9,6 +9,7 @@ use Rattle.std.specs.declared.result.Result.{Result}
 use Rattle.std.specs.declared.result.Result.the-variants.{Ok, Err}
 use Rattle.stops.specs.declared.Stop.{Stop}
 use Rattle.stops.specs.declared.Stop.the-variants.{TooLong}
+use Rattle.stops.specs.Stops.{fault}
 use Rattle.lines.specs.declared.fault.TextFault.{TextFault}
 use Rattle.lines.specs.declared.reader.Line.{Line}
 use Rattle.lines.specs.declared.reader.Reader.{Reader}
@@ -20,7 +21,7 @@ longestText = 65536
 
 -- a fault of the text layer
 abbrev pub textFault : Stop → ℕ → ℕ → TextFault
-textFault s l p = record { found = record { stop = s; line = l; place = p } }
+textFault s l p = record { found = fault s l p }
 
 -- the part of the text that is not read yet
 abbrev pub unread : Reader → List ℕ

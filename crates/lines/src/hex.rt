@@ -80,13 +80,19 @@ impl Line<'_> {
         let line = self.number;
         let digits = self.part;
         if digits.len() > LONGEST_LINE {
-            return Err(TextFault { found: Fault { stop: Stop::TooLong, line, place: LONGEST_LINE + 1 } });
+            return Err(TextFault {
+                found: Fault::at(Stop::TooLong, line, LONGEST_LINE + 1),
+            });
         }
         if let Some(place) = bad_place(digits) {
-            return Err(TextFault { found: Fault { stop: Stop::NotADigit, line, place } });
+            return Err(TextFault {
+                found: Fault::at(Stop::NotADigit, line, place),
+            });
         }
         if digits.len() % 2 != 0 {
-            return Err(TextFault { found: Fault { stop: Stop::OddDigits, line, place: digits.len() } });
+            return Err(TextFault {
+                found: Fault::at(Stop::OddDigits, line, digits.len()),
+            });
         }
         write_bytes(digits, buffer);
         Ok(digits.len() / 2)

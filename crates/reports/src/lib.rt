@@ -12,7 +12,13 @@ use stops::Layer;
 use stops::LayerDisplay;
 
 // The line that a stopped reading prints.
-fn stop_line(heap: Global, number: u8, line: usize, place: usize, layer: Layer) -> Result<String, AllocError>
+fn stop_line(
+    heap: Global,
+    number: u8,
+    line: usize,
+    place: usize,
+    layer: Layer,
+) -> Result<String, AllocError>
     ensures { λ r. ⌜ made r (λ s. string-bytes s ≡ stopped number line place (layerName layer)) ⌝ }
 {
     format!(heap, "stop {number} {line} {place} {layer}\n")
@@ -30,9 +36,15 @@ pub fn report(heap: Global, text: &[u8]) -> Result<String, AllocError>
         }
         Err(refused) => {
             let (draft, fault) = refused;
-            draft.give_up();
+            let _lines = draft.give_up();
             let found = fault.found();
-            stop_line(heap, found.stop.number(), found.line, found.place, fault.layer())
+            stop_line(
+                heap,
+                found.stop.number(),
+                found.line,
+                found.place,
+                fault.layer(),
+            )
         }
     }
 }

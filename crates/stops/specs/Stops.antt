@@ -1,9 +1,10 @@
--- The number of each stop, and the name of each layer. Assumes nothing.
+-- The number of each stop, what a fault says, and the name of each layer. Assumes nothing.
 use mathlib.Core.List.{List}
 use Prim.Native.Nat.{ℕ}
 use lib.Chars.{codes}
 use Rattle.stops.specs.declared.Stop.{Stop}
 use Rattle.stops.specs.declared.Stop.the-variants.{OddDigits, NotADigit, TooLong, UnknownKind, WrongLength, OutOfSequence, OutOfRange, GivenBefore, NoSuchMovement, Full, Unfinished}
+use Rattle.stops.specs.declared.Fault.{Fault}
 use Rattle.stops.specs.declared.Layer.{Layer}
 use Rattle.stops.specs.declared.Layer.the-variants.{Text, Frame, Book}
 
@@ -30,6 +31,10 @@ numberOf NoSuchMovement = 9
 numberOf Full = 10
 -- closing with no movement, or with no closing line
 numberOf Unfinished = 11
+
+-- a stop at a place of a line
+abbrev pub fault : Stop → ℕ → ℕ → Fault
+fault s l p = record { stop = s; line = l; place = p }
 
 -- the word by which a report names the layer
 abbrev pub layerName : Layer → List ℕ

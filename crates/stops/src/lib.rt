@@ -1,7 +1,7 @@
 // Why a reading is refused, and where: the stops with their numbers, and the layers that find them.
 ghost use mathlib.Core.Path.{_≡_};
 ghost use Rattle.std.specs.declared.option.Option.the-variants.{Some};
-ghost use Rattle.stops.specs.Stops.{numberOf, layerName};
+ghost use Rattle.stops.specs.Stops.{numberOf, fault, layerName};
 use std::fmt;
 
 // One case for each rule that a line, a text or a book can break.
@@ -54,6 +54,15 @@ impl Stop {
             Stop::Full => 10,
             Stop::Unfinished => 11,
         }
+    }
+}
+
+impl Fault {
+    // The fault of a stop at a place of a line.
+    pub fn at(stop: Stop, line: usize, place: usize) -> Fault
+        ensures { λ r. ⌜ r ≡ fault stop line place ⌝ }
+    {
+        Fault { stop, line, place }
     }
 }
 

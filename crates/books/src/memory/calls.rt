@@ -12,8 +12,16 @@ impl Memory {
     pub fn new() -> Memory
         ensures { λ r. ⌜ Blank r ⌝ }
     {
-        let step = Step { section: 0, set: 0, release: 0 };
-        let route = Route { priority: 0, count: 0, steps: [step; MOST_STEPS] };
+        let step = Step {
+            section: 0,
+            set: 0,
+            release: 0,
+        };
+        let route = Route {
+            priority: 0,
+            count: 0,
+            steps: [step; MOST_STEPS],
+        };
         let run = Run { movement: 0 };
         Memory {
             routes: [route; MOST_MOVEMENTS],

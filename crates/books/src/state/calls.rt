@@ -20,7 +20,14 @@ impl Draft {
     {
         memory.table = [[None; MOST_MOVEMENTS]; MOST_MOVEMENTS];
         memory.openings = [None; MOST_MOVEMENTS];
-        Draft { lines: 0, last_kind: 0, movements: 0, runs_a: 0, runs_b: 0, closing: None }
+        Draft {
+            lines: 0,
+            last_kind: 0,
+            movements: 0,
+            runs_a: 0,
+            runs_b: 0,
+            closing: None,
+        }
     }
 
     // The draft with a line more; or the draft as it was, with the fault that refuses the line, and the memory as it was.
@@ -31,16 +38,25 @@ impl Draft {
             return Err((self, BookFault::Found(fault)));
         }
         match frame {
-            Frame::Movement { number, priority, place, steps } => {
-                self.take_movement(memory, number, priority, place, steps)
-            }
-            Frame::Pair { first, second, gap, weight } => {
-                self.take_pair(memory, first, second, Listed { gap, weight })
-            }
+            Frame::Movement {
+                number,
+                priority,
+                place,
+                steps,
+            } => { self.take_movement(memory, number, priority, place, steps) }
+            Frame::Pair {
+                first,
+                second,
+                gap,
+                weight,
+            } => { self.take_pair(memory, first, second, Listed { gap, weight }) }
             Frame::Opening { movement, seconds } => self.take_opening(memory, movement, seconds),
             Frame::OrderA { place, runs } => self.take_order_a(memory, place, runs),
             Frame::OrderB { place, runs } => self.take_order_b(memory, place, runs),
-            Frame::Closing { movement, window } => self.take_closing(memory, Closing { movement, window }),
+            Frame::Closing { movement, window } => self.take_closing(
+                memory,
+                Closing { movement, window },
+            ),
         }
     }
 
@@ -48,20 +64,43 @@ impl Draft {
     pub fn close(self, memory: &Memory) -> Result<Book, (Draft, BookFault)>
         ensures { λ r. ⌜ Shut self (now (memory .entry)) r ⌝ }
     {
-        let unfinished = BookFault::Found(Fault { stop: Stop::Unfinished, line: self.lines, place: 0 });
+        let unfinished = BookFault::Found(Fault::at(Stop::Unfinished, self.lines, 0));
         if self.movements == 0 {
             return Err((self, unfinished));
         }
         let Some(closing) = self.closing else {
             return Err((self, unfinished));
         };
-        let Draft { lines, last_kind: _, movements, runs_a, runs_b, closing: _ } = self;
-        Ok(Book { lines, movements, runs_a, runs_b, closing })
+        let Draft {
+            lines,
+            last_kind: _,
+            movements,
+            runs_a,
+            runs_b,
+            closing: _,
+        } = self;
+        Ok(Book {
+            lines,
+            movements,
+            runs_a,
+            runs_b,
+            closing,
+        })
     }
 
-    // Lets a draft go.
-    pub fn give_up(self) {
-        let Draft { lines: _, last_kind: _, movements: _, runs_a: _, runs_b: _, closing: _ } = self;
+    // Lets a draft go, and answers how many lines it had taken.
+    pub fn give_up(self) -> usize
+        ensures { λ r. ⌜ r ≡ self .lines ⌝ }
+    {
+        let Draft {
+            lines,
+            last_kind: _,
+            movements: _,
+            runs_a: _,
+            runs_b: _,
+            closing: _,
+        } = self;
+        lines
     }
 }
 

@@ -16,16 +16,18 @@ use crate::memory::Memory;
 use crate::memory::Step;
 use frames::frame::CLOSING;
 use frames::frame::Frame;
-use frames::frame::MOST_STEPS;
+use frames::frame::KIND_PLACE;
 use frames::frame::STEP_BYTES;
+use frames::frame::are_whole_steps;
 use lines::reader::LONGEST_TEXT;
 use stops::Fault;
 use stops::Stop;
 
-// The places of a line's kind, of its first and second field, and of a pair's weight.
-const KIND_PLACE: usize = 1;
+// The places of a line's first and second field, and of a pair's weight.
 const FIRST_PLACE: usize = 2;
+
 const SECOND_PLACE: usize = 3;
+
 const WEIGHT_PLACE: usize = 6;
 
 // The greatest priority and the greatest weight.
@@ -54,10 +56,10 @@ fn check_steps(line: usize, place: u8, steps: &[Step]) -> Result<(), Fault>
     for (i, step) in steps.iter().enumerate() {
         let at = place as usize + STEP_BYTES * i;
         if step.set >= step.release {
-            return Err(Fault { stop: Stop::OutOfRange, line, place: at });
+            return Err(Fault::at(Stop::OutOfRange, line, at));
         }
         if uses_section(&steps[0..i], step.section) {
-            return Err(Fault { stop: Stop::GivenBefore, line, place: at });
+            return Err(Fault::at(Stop::GivenBefore, line, at));
         }
     }
     Ok(())
@@ -71,7 +73,13 @@ fn is_within(count: usize, movement: u8) -> bool
 }
 
 // There is room for each run behind those held, and its movement is one of the count. The first run stands at `place`.
-pub(super) fn check_runs(line: usize, count: usize, held: usize, place: u8, runs: &[u8]) -> Result<(), Fault>
+pub(super) fn check_runs(
+    line: usize,
+    count: usize,
+    held: usize,
+    place: u8,
+    runs: &[u8],
+) -> Result<(), Fault>
     requires { ⌜ held ≤ 512 ⌝ }
     ensures value { λ r. ⌜ r ≡ runsCheck line count held place (now (runs .entry)) ⌝ }
     ensures room { λ r. ⌜ made r (λ _. held + length (now (runs .entry)) ≤ 512) ⌝ }
@@ -80,10 +88,10 @@ pub(super) fn check_runs(line: usize, count: usize, held: usize, place: u8, runs
     let mut at = place as usize;
     for movement in runs {
         if len >= MOST_RUNS {
-            return Err(Fault { stop: Stop::Full, line, place: at });
+            return Err(Fault::at(Stop::Full, line, at));
         }
         if !is_within(count, *movement) {
-            return Err(Fault { stop: Stop::NoSuchMovement, line, place: at });
+            return Err(Fault::at(Stop::NoSuchMovement, line, at));
         }
         len += 1;
         at += 1;
@@ -96,10 +104,7 @@ fn part_fits(frame: Frame<'_>) -> bool
     ensures { λ r. ⌜ r ≡ partFits (content (frame .entry)) ⌝ }
 {
     match frame {
-        Frame::Movement { steps, .. } => {
-            let n = steps.len();
-            n % STEP_BYTES == 0 && STEP_BYTES <= n && n <= STEP_BYTES * MOST_STEPS
-        }
+        Frame::Movement { steps, .. } => are_whole_steps(steps.len()),
         Frame::OrderA { runs, .. } | Frame::OrderB { runs, .. } => runs.len() > 0,
         Frame::Pair { .. } | Frame::Opening { .. } | Frame::Closing { .. } => true,
     }
@@ -110,7 +115,8 @@ fn part_place(frame: Frame<'_>) -> usize
     ensures { λ r. ⌜ r ≡ partPlace (content (frame .entry)) ⌝ }
 {
     match frame {
-        Frame::Movement { place, .. } | Frame::OrderA { place, .. } | Frame::OrderB { place, .. } => place as usize,
+        Frame::Movement { place, .. } | Frame::OrderA { place, .. } | Frame::OrderB { place, .. } =>
+            place as usize,
         Frame::Pair { .. } | Frame::Opening { .. } | Frame::Closing { .. } => KIND_PLACE,
     }
 }
@@ -129,64 +135,83 @@ impl Draft {
     {
         let line = self.next_line();
         if !part_fits(frame) {
-            return Err(Fault { stop: Stop::WrongLength, line, place: part_place(frame) });
+            return Err(Fault::at(Stop::WrongLength, line, part_place(frame)));
         }
         let kind = frame.kind();
         if kind < self.last_kind || (kind == CLOSING && self.last_kind == CLOSING) {
-            return Err(Fault { stop: Stop::OutOfSequence, line, place: KIND_PLACE });
+            return Err(Fault::at(Stop::OutOfSequence, line, KIND_PLACE));
         }
         Ok(())
     }
 
     // A movement: there is room for it, its number is the next, its priority is in bounds, and its steps are.
-    pub(super) fn check_movement(&self, number: u8, priority: u8, place: u8, steps: &[Step]) -> Result<(), Fault>
+    pub(super) fn check_movement(
+        &self,
+        number: u8,
+        priority: u8,
+        place: u8,
+        steps: &[Step],
+    ) -> Result<(), Fault>
         requires { ⌜ length (now steps) ≤ 24 ⌝ }
         ensures value { λ r. ⌜ r ≡ movementCheck (nextLine (now (self .entry) .lines)) (now (self .entry) .movements) number priority place (now (steps .entry)) ⌝ }
         ensures room { λ r. ⌜ made r (λ _. now (self .entry) .movements < 64) ⌝ }
     {
         let line = self.next_line();
         if self.movements >= MOST_MOVEMENTS {
-            return Err(Fault { stop: Stop::Full, line, place: FIRST_PLACE });
+            return Err(Fault::at(Stop::Full, line, FIRST_PLACE));
         }
         if number as usize != self.movements + 1 {
-            return Err(Fault { stop: Stop::OutOfSequence, line, place: FIRST_PLACE });
+            return Err(Fault::at(Stop::OutOfSequence, line, FIRST_PLACE));
         }
         if priority > HIGHEST_RANK {
-            return Err(Fault { stop: Stop::OutOfRange, line, place: SECOND_PLACE });
+            return Err(Fault::at(Stop::OutOfRange, line, SECOND_PLACE));
         }
         check_steps(line, place, steps)
     }
 
     // A pair: both movements are there, no line listed the pair before, and its weight is in bounds.
-    pub(super) fn check_pair(&self, memory: &Memory, first: u8, second: u8, listed: Listed) -> Result<(), Fault>
+    pub(super) fn check_pair(
+        &self,
+        memory: &Memory,
+        first: u8,
+        second: u8,
+        listed: Listed,
+    ) -> Result<(), Fault>
         ensures { λ r. ⌜ r ≡ fieldsCheck (nextLine (now (self .entry) .lines)) (now (self .entry) .movements) (draftOf (now (self .entry)) (now (memory .entry))) (pair first second (listed .gap) (listed .weight)) ⌝ }
     {
         let line = self.next_line();
         if !is_within(self.movements, first) {
-            return Err(Fault { stop: Stop::NoSuchMovement, line, place: FIRST_PLACE });
+            return Err(Fault::at(Stop::NoSuchMovement, line, FIRST_PLACE));
         }
         if !is_within(self.movements, second) {
-            return Err(Fault { stop: Stop::NoSuchMovement, line, place: SECOND_PLACE });
+            return Err(Fault::at(Stop::NoSuchMovement, line, SECOND_PLACE));
         }
-        if memory.table[first as usize - 1][second as usize - 1].is_some() {
-            return Err(Fault { stop: Stop::GivenBefore, line, place: SECOND_PLACE });
+        if memory
+            .table[first as usize - 1][second as usize - 1]
+            .is_some() {
+            return Err(Fault::at(Stop::GivenBefore, line, SECOND_PLACE));
         }
         if listed.weight > HIGHEST_RANK {
-            return Err(Fault { stop: Stop::OutOfRange, line, place: WEIGHT_PLACE });
+            return Err(Fault::at(Stop::OutOfRange, line, WEIGHT_PLACE));
         }
         Ok(())
     }
 
     // An opening: its movement is there, and no line gave it an opening before.
-    pub(super) fn check_opening(&self, memory: &Memory, movement: u8, seconds: u32) -> Result<(), Fault>
+    pub(super) fn check_opening(
+        &self,
+        memory: &Memory,
+        movement: u8,
+        seconds: u32,
+    ) -> Result<(), Fault>
         ensures { λ r. ⌜ r ≡ fieldsCheck (nextLine (now (self .entry) .lines)) (now (self .entry) .movements) (draftOf (now (self .entry)) (now (memory .entry))) (opening movement seconds) ⌝ }
     {
         let line = self.next_line();
         if !is_within(self.movements, movement) {
-            return Err(Fault { stop: Stop::NoSuchMovement, line, place: FIRST_PLACE });
+            return Err(Fault::at(Stop::NoSuchMovement, line, FIRST_PLACE));
         }
         if memory.openings[movement as usize - 1].is_some() {
-            return Err(Fault { stop: Stop::GivenBefore, line, place: FIRST_PLACE });
+            return Err(Fault::at(Stop::GivenBefore, line, FIRST_PLACE));
         }
         Ok(())
     }
@@ -197,10 +222,10 @@ impl Draft {
     {
         let line = self.next_line();
         if !is_within(self.movements, closing.movement) {
-            return Err(Fault { stop: Stop::NoSuchMovement, line, place: FIRST_PLACE });
+            return Err(Fault::at(Stop::NoSuchMovement, line, FIRST_PLACE));
         }
         if closing.window < 1 || closing.window > LONGEST_WINDOW {
-            return Err(Fault { stop: Stop::OutOfRange, line, place: SECOND_PLACE });
+            return Err(Fault::at(Stop::OutOfRange, line, SECOND_PLACE));
         }
         Ok(())
     }

@@ -16,15 +16,27 @@ pub(crate) fn read_route(priority: u8, bytes: &[u8]) -> Route
     ensures steps { λ r. ⌜ movementOf r ≡ record { priority = priority; steps = stepsOf (now (bytes .entry)) } ⌝ }
     ensures within { λ r. ⌜ r .count ≤ 24 ⌝ }
 {
-    let mut steps = [Step { section: 0, set: 0, release: 0 }; MOST_STEPS];
+    let mut steps = [Step {
+        section: 0,
+        set: 0,
+        release: 0,
+    }; MOST_STEPS];
     let mut count = 0;
     let mut rest = bytes;
     while let [section, s1, s0, r1, r0, tail @ ..] = rest {
-        steps[count] = Step { section: *section, set: two(*s1, *s0), release: two(*r1, *r0) };
+        steps[count] = Step {
+            section: *section,
+            set: two(*s1, *s0),
+            release: two(*r1, *r0),
+        };
         count += 1;
         rest = tail;
     }
-    Route { priority, count, steps }
+    Route {
+        priority,
+        count,
+        steps,
+    }
 }
 
 // Writes runs into a row, behind those that it holds.
@@ -34,7 +46,9 @@ pub(crate) fn write_runs(row: &mut [Run], held: usize, runs: &[u8])
 {
     let mut at = held;
     for movement in runs {
-        row[at] = Run { movement: *movement };
+        row[at] = Run {
+            movement: *movement,
+        };
         at += 1;
     }
 }

@@ -22,12 +22,24 @@ use frames::frame::PAIR;
 // A draft after a line whose kind is in sequence, one function for each kind: the line's fields are tested, and only
 // then is anything written.
 impl Draft {
-    pub(super) fn take_movement(mut self, memory: &mut Memory, number: u8, priority: u8, place: u8, steps: &[u8]) -> Result<Draft, (Draft, BookFault)>
+    pub(super) fn take_movement(
+        mut self,
+        memory: &mut Memory,
+        number: u8,
+        priority: u8,
+        place: u8,
+        steps: &[u8],
+    ) -> Result<Draft, (Draft, BookFault)>
         requires { ⌜ length (now steps) ≤ 120 ⌝ }
         ensures { λ r. ⌜ Taken (stepFields (draftOf self (now (memory .entry))) (movement number priority place (now (steps .entry)))) self (now (memory .entry)) r (now (memory .exit)) ⌝ }
     {
         let route = read_route(priority, steps);
-        if let Err(fault) = self.check_movement(number, priority, place, &route.steps[0..route.count]) {
+        if let Err(fault) = self.check_movement(
+            number,
+            priority,
+            place,
+            &route.steps[0..route.count],
+        ) {
             return Err((self, BookFault::Found(fault)));
         }
         memory.routes[self.movements] = route;
@@ -37,7 +49,13 @@ impl Draft {
         Ok(self)
     }
 
-    pub(super) fn take_pair(mut self, memory: &mut Memory, first: u8, second: u8, listed: Listed) -> Result<Draft, (Draft, BookFault)>
+    pub(super) fn take_pair(
+        mut self,
+        memory: &mut Memory,
+        first: u8,
+        second: u8,
+        listed: Listed,
+    ) -> Result<Draft, (Draft, BookFault)>
         ensures { λ r. ⌜ Taken (stepFields (draftOf self (now (memory .entry))) (pair first second (listed .gap) (listed .weight))) self (now (memory .entry)) r (now (memory .exit)) ⌝ }
     {
         if let Err(fault) = self.check_pair(memory, first, second, listed) {
@@ -49,7 +67,12 @@ impl Draft {
         Ok(self)
     }
 
-    pub(super) fn take_opening(mut self, memory: &mut Memory, movement: u8, seconds: u32) -> Result<Draft, (Draft, BookFault)>
+    pub(super) fn take_opening(
+        mut self,
+        memory: &mut Memory,
+        movement: u8,
+        seconds: u32,
+    ) -> Result<Draft, (Draft, BookFault)>
         ensures { λ r. ⌜ Taken (stepFields (draftOf self (now (memory .entry))) (opening movement seconds)) self (now (memory .entry)) r (now (memory .exit)) ⌝ }
     {
         if let Err(fault) = self.check_opening(memory, movement, seconds) {
@@ -61,7 +84,12 @@ impl Draft {
         Ok(self)
     }
 
-    pub(super) fn take_order_a(mut self, memory: &mut Memory, place: u8, runs: &[u8]) -> Result<Draft, (Draft, BookFault)>
+    pub(super) fn take_order_a(
+        mut self,
+        memory: &mut Memory,
+        place: u8,
+        runs: &[u8],
+    ) -> Result<Draft, (Draft, BookFault)>
         ensures { λ r. ⌜ Taken (stepFields (draftOf self (now (memory .entry))) (orderA place (now (runs .entry)))) self (now (memory .entry)) r (now (memory .exit)) ⌝ }
     {
         let line = self.next_line();
@@ -75,7 +103,12 @@ impl Draft {
         Ok(self)
     }
 
-    pub(super) fn take_order_b(mut self, memory: &mut Memory, place: u8, runs: &[u8]) -> Result<Draft, (Draft, BookFault)>
+    pub(super) fn take_order_b(
+        mut self,
+        memory: &mut Memory,
+        place: u8,
+        runs: &[u8],
+    ) -> Result<Draft, (Draft, BookFault)>
         ensures { λ r. ⌜ Taken (stepFields (draftOf self (now (memory .entry))) (orderB place (now (runs .entry)))) self (now (memory .entry)) r (now (memory .exit)) ⌝ }
     {
         let line = self.next_line();
@@ -89,7 +122,11 @@ impl Draft {
         Ok(self)
     }
 
-    pub(super) fn take_closing(mut self, memory: &mut Memory, line: Closing) -> Result<Draft, (Draft, BookFault)>
+    pub(super) fn take_closing(
+        mut self,
+        memory: &mut Memory,
+        line: Closing,
+    ) -> Result<Draft, (Draft, BookFault)>
         ensures { λ r. ⌜ Taken (stepFields (draftOf self (now (memory .entry))) (closing (line .movement) (line .window))) self (now (memory .entry)) r (now (memory .exit)) ⌝ }
     {
         if let Err(fault) = self.check_closing(line) {

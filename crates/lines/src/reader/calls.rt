@@ -32,7 +32,9 @@ pub fn check_length(text: &[u8]) -> Result<(), TextFault>
     ensures { λ r. ⌜ Measured (now (text .entry)) r ⌝ }
 {
     if text.len() > LONGEST_TEXT {
-        return Err(TextFault { found: Fault { stop: Stop::TooLong, line: 0, place: 0 } });
+        return Err(TextFault {
+            found: Fault::at(Stop::TooLong, 0, 0),
+        });
     }
     Ok(())
 }
@@ -42,7 +44,11 @@ impl<'a> Reader<'a> {
     pub fn new(text: &'a [u8]) -> Reader<'a>
         ensures { λ r. ⌜ Begins (now (text .entry)) r ⌝ }
     {
-        Reader { text, at: 0, lines: 0 }
+        Reader {
+            text,
+            at: 0,
+            lines: 0,
+        }
     }
 
     // The next line, or none where the text is read to its end.
@@ -58,6 +64,9 @@ impl<'a> Reader<'a> {
         let step = if n < rest.len() { n + 1 } else { n };
         self.at += step;
         self.lines += 1;
-        Some(Line { number: self.lines, part })
+        Some(Line {
+            number: self.lines,
+            part,
+        })
     }
 }

@@ -16,11 +16,10 @@ use Rattle.books.proofs.reading.read_book.Needs as need
 pub loop-line-holds : need.loop-line-holds
 loop-line-holds c =
     let all = c .new-reader .ensures .all in
-    let begun = c .begin-draft .ensures in
-    (
+    let begun = c .begin-draft .ensures in (
       (λ i. through (Ok (begun i)) (linesOf (all i))),
       c .new-reader .ensures .none ∙ sym (ap (λ (h : Drafted). h .lines) begun),
-      omega (arith, lines-few (c .args .text .now), ap (λ xs. length (linesOf xs)) all, c .new-reader .ensures .none, c .in-rest .ensures tt)
+      omega (arith, lines-few (c .args .text .now), ap (λ xs. length (linesOf xs)) all, c .new-reader .ensures .none, c .in-rest .ensures tt),
     )
 
 pub loop-line-again : need.loop-line-again
@@ -30,11 +29,10 @@ loop-line-again c =
     let h = draftOf (c .loop-line .draft) (c .loop-line .memory) in
     let taken = c .in-Continue-draft .ensures tt .taken in
     let next = line-next (c .in-Some .line .number) (h .lines) _ _ _ _ (read .number) (inv .1) (inv .2) (read .line) in
-    let counted = line-counted (c .in-Some .line .number) h _ (c .in-Some .line .part .now) taken in
-    (
+    let counted = line-counted (c .in-Some .line .number) h _ (c .in-Some .line .part .now) taken in (
       sym (reads-on _ h _ _ _ next (read .line) _ taken) ∙ inv .0,
       read .count ∙ sym (read .number) ∙ next ∙ sym counted,
-      omega (arith, read .count, inv .2, ap length (read .line))
+      omega (arith, read .count, inv .2, ap length (read .line)),
     )
 
 pub returns-in-Break-draft : need.returns-in-Break-draft

@@ -14,7 +14,7 @@ loop-rest-again c =
     let two : 2 ≤ length rest = omega (arith, ltb-false) in
     let room : c .loop-rest .at < 123 = omega (arith, c .pre, c .loop-rest .inv .reached, ap length (unrolled rest two)) in
     let value : c .nibble .result * 16 + c .nibble-in-len2-up .result ≡ nibbleOf (getD rest 0 0) * 16 + nibbleOf (getD rest 1 0) =
-        omega (arith, c .nibble .ensures .value, c .nibble-in-len2-up .ensures .value) in
+    omega (arith, c .nibble .ensures .value, c .nibble-in-len2-up .ensures .value) in
     one-more (c .loop-rest .inv) two room _ value _ (take-rest rest 2) (length-set (c .loop-rest .buffer) (c .loop-rest .at) _ ∙ c .loop-rest .inv .long)
 
 pub returns : need.returns

@@ -31,8 +31,8 @@ returns c =
     let e = draftOf d m .entries in
     accepted (draftOf d m) line (d .movements) (count-movements d m) _ (sym tested ∙ sym (c .in-rest .ensures tt .value))
     ∙ (λ i. Ok (record {
-        lines = sym (c .next-line .ensures) i;
-        last = 1;
-        entries = record { movements = more i; table = e .table; openings = e .openings; orderA = e .orderA; orderB = e .orderB };
-        closing = d .closing;
-      }))
+      lines = sym (c .next-line .ensures) i;
+      last = 1;
+      entries = record { movements = more i; table = e .table; openings = e .openings; orderA = e .orderA; orderB = e .orderB };
+      closing = d .closing;
+    }))

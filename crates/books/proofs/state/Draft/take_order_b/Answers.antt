@@ -22,8 +22,8 @@ returns c =
     let e = draftOf d m .entries in
     accepted (draftOf d m) line (d .movements) (count-movements d m) _ (tested ∙ sym (c .in-rest .ensures tt .value))
     ∙ (λ i. Ok (record {
-        lines = sym (c .next-line-line .ensures) i;
-        last = 5;
-        entries = record { movements = e .movements; table = e .table; openings = e .openings; orderB = sym (c .write-runs .ensures) i; orderA = e .orderA };
-        closing = d .closing;
-      }))
+      lines = sym (c .next-line-line .ensures) i;
+      last = 5;
+      entries = record { movements = e .movements; table = e .table; openings = e .openings; orderB = sym (c .write-runs .ensures) i; orderA = e .orderA };
+      closing = d .closing;
+    }))

@@ -14,7 +14,7 @@ loop-rest-again c =
     let rest = c .loop-rest .rest .now in
     let five : 5 ≤ length rest = omega (arith, ltb-false) in
     let read : _≡_ {A = Step} (record { section = getD rest 0 0; set = c .two .result; release = c .two-in-len5-up .result }) (stepOf (getD rest 0 0) (getD rest 1 0) (getD rest 2 0) (getD rest 3 0) (getD rest 4 0)) =
-        (λ i. record { section = getD rest 0 0; set = c .two .ensures i; release = c .two-in-len5-up .ensures i }) in
+    (λ i. record { section = getD rest 0 0; set = c .two .ensures i; release = c .two-in-len5-up .ensures i }) in
     read-more (c .loop-rest .inv) five _ read _ (take-rest rest 5)
 
 pub returns : need.returns

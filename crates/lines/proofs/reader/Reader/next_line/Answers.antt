@@ -27,10 +27,10 @@ returns c =
     let len0 : n - 0 ≡ length (front rest) = omega arith in
     let long : length (take (length text - at) rest) ≡ length rest = ap length same-rest in
     let step : c .if-n-rest .step ≡ min (length rest) (length (front rest) + 1) =
-        elim (c .if-n-rest .came) [ then-n-rest w ↦ omega (arith, w .step-is, w .if-n-rest .taken) | else-n-rest w ↦ omega (arith, w .step-is, w .if-n-rest .left) ] in
+    elim (c .if-n-rest .came) [ then-n-rest w ↦ omega (arith, w .step-is, w .if-n-rest .taken) | else-n-rest w ↦ omega (arith, w .step-is, w .if-n-rest .left) ] in
     let part : take (n - 0) (take (length text - at) rest) ≡ front rest = ap (take (n - 0)) same-rest ∙ ap (λ k. take k rest) len0 ∙ take-front rest in
     let left : drop (at + c .if-n-rest .step) text ≡ after rest =
-        sym (drop-drop (c .if-n-rest .step) at text) ∙ ap (λ k. drop k rest) step ∙ drop-past rest in
+    sym (drop-drop (c .if-n-rest .step) at text) ∙ ap (λ k. drop k rest) step ∙ drop-past rest in
     record {
       part = part;
       rest = left;
