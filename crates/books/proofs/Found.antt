@@ -16,7 +16,7 @@ use Rattle.frames.specs.Frames.{Content, movement, pair, opening, orderA, order
 use Rattle.books.specs.declared.memory.Listed.{Listed}
 use Rattle.stops.specs.Stops.{fault}
 use Rattle.books.specs.Held.{Entries, Drafted, listed, opened}
-use Rattle.books.specs.Lines.{given, listedOf}
+use Rattle.books.specs.Adding.{given, listedOf}
 use Rattle.books.specs.Taking.{passed, stopIf, within, fieldsCheck}
 use Rattle.books.specs.Says.{Among, numberIn, movementIn, runsAIn, runsBIn, countUp, Gives}
 use Rattle.books.proofs.Saying.{among-last, among-more, among-split, joined-push, countUp-push, goes-on, second-on, third-on, within-bounds, none-there, given-movements, given-a, given-b, list-more, pairs-kept, no-other-pairs-kept, openings-kept, no-other-openings-kept}

@@ -10,7 +10,7 @@ use Rattle.std.proofs.shelf.Lists.{length-push}
 use Rattle.frames.specs.Kinds.{pairKind, openingKind}
 use Rattle.frames.specs.Frames.{Content, movement, pair, opening, orderA, orderB, closing, kindOf}
 use Rattle.books.specs.Held.{Entries, Drafted}
-use Rattle.books.specs.Lines.{given, stepsOf}
+use Rattle.books.specs.Adding.{given, stepsOf}
 use Rattle.books.specs.Says.{Among, numberIn, movementIn, runsAIn, runsBIn, countUp, Gives}
 use Rattle.books.proofs.Saying.{among-split, joined-push, countUp-push, given-movements, given-a, given-b, list-more, pairs-kept, no-other-pairs-kept, openings-kept, no-other-openings-kept}
 use Rattle.books.proofs.Tables.{Shaped, pair-shaped, opening-shaped}

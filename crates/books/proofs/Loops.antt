@@ -12,7 +12,7 @@ use Rattle.stops.specs.declared.Stop.the-variants.{OutOfRange, GivenBefore, NoS
 use Rattle.books.specs.declared.memory.Step.{Step}
 use Rattle.books.specs.declared.memory.Run.{Run}
 use Rattle.stops.specs.Stops.{fault}
-use Rattle.books.specs.Lines.{stepOf, stepsOf, runOf, runsOf}
+use Rattle.books.specs.Adding.{stepOf, stepsOf, runOf, runsOf}
 use Rattle.books.specs.Taking.{within, uses, stepsCheck, runsCheck, passed}
 
 abbrev noStep : Step

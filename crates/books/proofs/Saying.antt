@@ -20,7 +20,7 @@ use Rattle.frames.specs.Kinds.{pairKind, openingKind}
 use Rattle.frames.specs.Frames.{Content, movement, pair, opening, orderA, orderB, closing, kindOf}
 use Rattle.books.specs.declared.memory.Listed.{Listed}
 use Rattle.books.specs.Held.{Entries, Drafted, listed, opened}
-use Rattle.books.specs.Lines.{given, listedOf}
+use Rattle.books.specs.Adding.{given, listedOf}
 use Rattle.books.specs.Taking.{Check, passed, stopIf, within, fieldsCheck, kindCheck}
 use Rattle.books.specs.Says.{Among, numberIn, movementIn, runsAIn, runsBIn, closingIn, countUp, Gives}
 

@@ -12,7 +12,7 @@ use Rattle.std.specs.declared.option.Option.the-variants.{Some, None}
 use Rattle.frames.specs.Frames.{pair, opening}
 use Rattle.books.specs.declared.memory.Listed.{Listed}
 use Rattle.books.specs.Held.{Entries, listed, opened}
-use Rattle.books.specs.Lines.{given, listedOf}
+use Rattle.books.specs.Adding.{given, listedOf}
 
 -- the table has 64 rows of 64, and there are 64 openings
 pub record Shaped (e : Entries) : Type 0 where

@@ -18,8 +18,8 @@ use Rattle.books.specs.declared.memory.Closing.{Closing}
 use Rattle.books.specs.declared.memory.Memory.{Memory}
 use Rattle.books.specs.declared.state.Draft.{Draft}
 use Rattle.books.specs.Held.{Movement, Drafted, movementOf, draftOf}
-use Rattle.books.specs.Lines.{nextLine, added}
-use Rattle.books.specs.Taking.{fieldsCheck, runsCheck, judged, stepFields, withClosing, closed}
+use Rattle.books.specs.Adding.{nextLine, added}
+use Rattle.books.specs.Taking.{fieldsCheck, runsCheck, judged, afterFields, withClosing, closed}
 
 -- so many movements and runs as the draft counts stand in its memory
 module _ (d : Draft) (m : Memory) where
@@ -35,13 +35,13 @@ module _ (d : Draft) (m : Memory) where
   count-b = length-take-le (d .«runs_b») (m .«order_b») (omega (arith, d .«short_b», m .«long_b»))
 
 module _ (h : Drafted) (c : Content) (n : ℕ) (many : length (h .entries .movements) ≡ n) where
-  fields-at : stepFields h c ≡ judged (fieldsCheck (nextLine (h .lines)) n h c) (added h c)
+  fields-at : afterFields h c ≡ judged (fieldsCheck (nextLine (h .lines)) n h c) (added h c)
   fields-at = ap (λ k. judged (fieldsCheck (nextLine (h .lines)) k h c) (added h c)) many
 
-  pub refused : (f : Fault) → fieldsCheck (nextLine (h .lines)) n h c ≡ Err f → stepFields h c ≡ Err (Found f)
+  pub refused : (f : Fault) → fieldsCheck (nextLine (h .lines)) n h c ≡ Err f → afterFields h c ≡ Err (Found f)
   refused f e = fields-at ∙ ap (λ r. judged r (added h c)) e
 
-  pub accepted : (u : Unit {0}) → fieldsCheck (nextLine (h .lines)) n h c ≡ Ok u → stepFields h c ≡ Ok (added h c)
+  pub accepted : (u : Unit {0}) → fieldsCheck (nextLine (h .lines)) n h c ≡ Ok u → afterFields h c ≡ Ok (added h c)
   accepted u e = fields-at ∙ ap (λ r. judged r (added h c)) e
 
 -- the test of runs, at equal numbers

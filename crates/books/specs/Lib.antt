@@ -1,6 +1,6 @@
 pub mod Faults
 pub mod Held
-pub mod Lines
+pub mod Adding
 pub mod Taking
-pub mod Reading
+pub mod TextBook
 pub mod Says

@@ -3,8 +3,9 @@ use mathlib.Core.Path.{_≡_}
 use mathlib.Core.List.{List, [], _∷_}
 use mathlib.Core.Logic.{_⊎_}
 use Prim.Native.Nat.{ℕ, _+_, _≤_}
-use lib.ListN.{length}
+use lib.ListN.{length, take}
 use Rattle.std.specs.Joined.{joined}
+use Rattle.std.specs.Vec.{listOf}
 use Rattle.std.specs.declared.option.Option.the-variants.{Some}
 use Rattle.std.specs.declared.result.Result.{Result}
 use Rattle.std.specs.declared.result.Result.the-variants.{Ok, Err}
@@ -17,8 +18,8 @@ use Rattle.books.specs.declared.memory.Closing.{Closing}
 use Rattle.books.specs.declared.memory.Memory.{Memory}
 use Rattle.books.specs.declared.state.Draft.{Draft}
 use Rattle.books.specs.declared.state.Book.{Book}
-use Rattle.books.specs.Held.{Movement, Entries, Closed, listed, opened, bookOf}
-use Rattle.books.specs.Lines.{stepsOf, runsOf, listedOf, closingOf}
+use Rattle.books.specs.Held.{Movement, Entries, Drafted, Closed, listed, opened, draftOf, bookOf}
+use Rattle.books.specs.Adding.{stepsOf, runsOf, listedOf, closingOf}
 
 -- the line is one of these
 abbrev pub Among : Content → List Content → Type 0
@@ -92,6 +93,12 @@ pub record Says (cs : List Content) (b : Closed) : Type 0 where
   pub closes : joined closingIn cs ≡ b .closing ∷ []
   pub counts : b .lines ≡ length cs
 
+-- the draft of these lines, likewise
+pub record SaysYet (cs : List Content) (h : Drafted) : Type 0 where
+  pub gives : Gives cs (h .entries)
+  pub closes : joined closingIn cs ≡ listOf (h .closing)
+  pub counts : h .lines ≡ length cs
+
 -- each line, numbered from k, is read as its content
 abbrev pub ReadAs : ℕ → List (List ℕ) → List Content → Type 0
 ReadAs k [] [] = Unit {0}
@@ -105,7 +112,13 @@ pub record HoldsLines (text : List ℕ) (b : Closed) : Type 0 where
   pub read : ReadAs 1 (linesOf text) contents
   pub says : Says contents b
 
+-- the draft holds exactly what the text's first lines say, those before the stop
+pub record HoldsFirst (text : List ℕ) (h : Drafted) : Type 0 where
+  pub contents : List Content
+  pub read : ReadAs 1 (take (length contents) (linesOf text)) contents
+  pub says : SaysYet contents h
+
 -- a call that reads a text into a book
 abbrev pub Faithful : List ℕ → Result Book (Draft × BookFault) → Memory → Type 0
 Faithful text (Ok b) m = HoldsLines text (bookOf b m)
-Faithful text (Err e) m = Unit {0}
+Faithful text (Err e) m = HoldsFirst text (draftOf (e .0) m)

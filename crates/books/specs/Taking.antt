@@ -24,7 +24,7 @@ use Rattle.books.specs.declared.state.Draft.{Draft}
 use Rattle.books.specs.declared.state.Book.{Book}
 use Rattle.stops.specs.Stops.{fault}
 use Rattle.books.specs.Held.{Drafted, Closed, listed, opened, draftOf, bookOf}
-use Rattle.books.specs.Lines.{stepsOf, nextLine, added}
+use Rattle.books.specs.Adding.{stepsOf, nextLine, added}
 
 -- a book has at most so many movements, and each of its orders at most so many runs
 abbrev pub mostMovements : ℕ
@@ -111,8 +111,8 @@ fieldsCheck line n h (orderB place r) = runsCheck line n (length (h .entries .or
 fieldsCheck line n h (closing m w) = closingCheck line n m w
 
 -- the kind of a line: not below that of the last line taken, and not a second closing
-abbrev pub early : ℕ → ℕ → Bool
-early last kind = ltb kind last || (eqb kind closingKind && eqb last closingKind)
+abbrev pub notInSequence : ℕ → ℕ → Bool
+notInSequence last kind = ltb kind last || (eqb kind closingKind && eqb last closingKind)
 
 -- a frame of the frame layer always has 1 to 24 whole steps, or 1 or more runs; one made by hand may not
 abbrev pub partFits : Content → Bool
@@ -136,7 +136,7 @@ partPlace (closing m w) = 1
 abbrev pub kindCheck : ℕ → ℕ → Content → Check
 kindCheck line last c =
     stopIf (not (partFits c)) (fault WrongLength line (partPlace c))
-    (stopIf (early last (kindOf c)) (fault OutOfSequence line 1)
+    (stopIf (notInSequence last (kindOf c)) (fault OutOfSequence line 1)
     passed)
 
 -- what a test makes of a draft: the draft with the line added, or the fault
@@ -145,16 +145,16 @@ judged (Ok u) h = Ok h
 judged (Err f) h = Err (Found f)
 
 -- a line whose kind is in sequence
-abbrev pub stepFields : Drafted → Content → Result Drafted BookFault
-stepFields h c = judged (fieldsCheck (nextLine (h .lines)) (length (h .entries .movements)) h c) (added h c)
+abbrev pub afterFields : Drafted → Content → Result Drafted BookFault
+afterFields h c = judged (fieldsCheck (nextLine (h .lines)) (length (h .entries .movements)) h c) (added h c)
 
 abbrev pub afterKind : Check → Drafted → Content → Result Drafted BookFault
-afterKind (Ok u) h c = stepFields h c
+afterKind (Ok u) h c = afterFields h c
 afterKind (Err f) h c = Err (Found f)
 
 -- a draft after one line more
-abbrev pub step : Drafted → Content → Result Drafted BookFault
-step h c = afterKind (kindCheck (nextLine (h .lines)) (h .last) c) h c
+abbrev pub afterFrame : Drafted → Content → Result Drafted BookFault
+afterFrame h c = afterKind (kindCheck (nextLine (h .lines)) (h .last) c) h c
 
 -- a call that takes a line: the draft and the memory mean what `s` says, or they are given back as they were
 abbrev pub Taken : Result Drafted BookFault → Draft → Memory → Result Draft (Draft × BookFault) → Memory → Type 0

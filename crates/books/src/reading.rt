@@ -4,8 +4,9 @@ ghost use lib.ListN.{take};
 ghost use Rattle.std.specs.Vec.{made};
 ghost use Rattle.lines.specs.Hex.{lineBytes};
 ghost use Rattle.books.specs.Held.{draftOf};
+ghost use Rattle.books.specs.Adding.{nextLine};
 ghost use Rattle.books.specs.Taking.{Taken};
-ghost use Rattle.books.specs.Reading.{lineStep, Buffered, Answered, frameIn, known};
+ghost use Rattle.books.specs.TextBook.{afterLine, Buffered, Answered, frameIn, known};
 ghost use Rattle.books.specs.Says.{Faithful};
 use crate::fault::BookFault;
 use crate::fault::BookFromFrame;
@@ -35,19 +36,21 @@ fn decoded_frame<'b>(
 }
 
 impl Draft {
-    // Takes a line of the text: its digits are read into the buffer, its bytes are named as a frame, and the frame is
-    // taken. A refusal gives the draft back as it was, and the memory too.
+    // Takes a line by its characters: its digits are read into the buffer, its bytes are named as a frame, and the frame
+    // is taken. A refusal gives the draft back as it was, and the memory too.
     pub fn take_line(
         self,
         memory: &mut Memory,
-        line: Line<'_>,
+        characters: &[u8],
         buffer: &mut [u8; MOST_BYTES],
     ) -> Result<Draft, (Draft, BookFault)>
-        ensures taken { λ r. ⌜ Taken (lineStep (line .entry .number) (draftOf self (now (memory .entry))) (now (line .entry .part))) self (now (memory .entry)) r (now (memory .exit)) ⌝ }
-        ensures buffer { λ _. ⌜ Buffered (lineBytes (line .entry .number) (now (line .entry .part))) (now (buffer .entry)) (now (buffer .exit)) ⌝ }
+        ensures taken { λ r. ⌜ Taken (afterLine (draftOf self (now (memory .entry))) (now (characters .entry))) self (now (memory .entry)) r (now (memory .exit)) ⌝ }
+        ensures buffer { λ _. ⌜ Buffered (lineBytes (nextLine (self .lines)) (now (characters .entry))) (now (buffer .entry)) (now (buffer .exit)) ⌝ }
     {
+        let number = self.next_line();
+        let line = Line { number, part: characters };
         let decoded = line.decode(buffer);
-        match decoded_frame(line.number, decoded, buffer) {
+        match decoded_frame(number, decoded, buffer) {
             Ok(frame) => self.take(memory, frame),
             Err(fault) => Err((self, fault)),
         }
@@ -66,7 +69,7 @@ pub fn read_book(text: &[u8], memory: &mut Memory) -> Result<Book, (Draft, BookF
     let mut reader = Reader::new(text);
     let mut buffer = [0; MOST_BYTES];
     while let Some(line) = reader.next_line() {
-        draft = draft.take_line(memory, line, &mut buffer)?;
+        draft = draft.take_line(memory, line.part, &mut buffer)?;
     }
     draft.close(memory)
 }

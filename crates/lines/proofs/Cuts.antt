@@ -11,7 +11,7 @@ use Rattle.std.specs.Joined.{joined}
 use Rattle.std.specs.shelf.Lists.{All}
 use Rattle.std.proofs.shelf.Tests.{cond-both, eqb-true, eqb-false}
 use Rattle.std.proofs.shelf.Ways.{tells}
-use Rattle.lines.specs.Texts.{front, after, withFirst, linesOf, ended, closed, lineEnd, Lines}
+use Rattle.lines.specs.Texts.{front, after, withFirst, linesOf, ended, withLastEnd, lineEnd, Lines}
 
 -- a text that is not empty has a first line
 pub first-line : (xs : List ℕ) → 0 < length xs → linesOf xs ≡ front xs ∷ linesOf (after xs)
@@ -33,12 +33,12 @@ length-first : (x : ℕ) (ls : List (List ℕ)) → 0 < length ls → length (wi
 length-first x [] h = absurd (omega arith)
 length-first x (l ∷ ls) h = refl
 
-lines-whole : (xs : List ℕ) → joined ended (linesOf xs) ≡ closed xs
+lines-whole : (xs : List ℕ) → joined ended (linesOf xs) ≡ withLastEnd xs
 lines-whole [] = refl
 lines-whole (x ∷ []) = grind (arith, tells)
 lines-whole (x ∷ y ∷ xs) =
     let more = lines-whole (y ∷ xs) in
-    cond-both (eqb x lineEnd) ([] ∷ linesOf (y ∷ xs)) (withFirst x (linesOf (y ∷ xs))) (λ ls. joined ended ls ≡ x ∷ closed (y ∷ xs))
+    cond-both (eqb x lineEnd) ([] ∷ linesOf (y ∷ xs)) (withFirst x (linesOf (y ∷ xs))) (λ ls. joined ended ls ≡ x ∷ withLastEnd (y ∷ xs))
     (λ e. let ends = eqb-true x lineEnd e in (λ i. sym ends i ∷ more i))
     (λ _. joined-first x (linesOf (y ∷ xs)) (some-line (y ∷ xs) (omega arith)) ∙ ap (λ t. x ∷ t) more)
 

@@ -36,13 +36,13 @@ abbrev pub ended : List ℕ → List ℕ
 ended l = l ++ lineEnd ∷ []
 
 -- a text whose last line lacks its line end, with that added
-abbrev pub closed : List ℕ → List ℕ
-closed [] = []
-closed (c ∷ []) = cond (eqb c lineEnd) (c ∷ []) (c ∷ lineEnd ∷ [])
-closed (c ∷ d ∷ cs) = c ∷ closed (d ∷ cs)
+abbrev pub withLastEnd : List ℕ → List ℕ
+withLastEnd [] = []
+withLastEnd (c ∷ []) = cond (eqb c lineEnd) (c ∷ []) (c ∷ lineEnd ∷ [])
+withLastEnd (c ∷ d ∷ cs) = c ∷ withLastEnd (d ∷ cs)
 
 -- what the lines of a text are, whatever finds them: no line holds a line end, and the lines with their line ends,
 -- put together, are the text
 pub record Lines (text : List ℕ) (ls : List (List ℕ)) : Type 0 where
-  pub whole : joined ended ls ≡ closed text
+  pub whole : joined ended ls ≡ withLastEnd text
   pub apart : All (λ l. All (λ c. c ≡ lineEnd → ⊥) l) ls

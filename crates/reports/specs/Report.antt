@@ -9,15 +9,15 @@ use Rattle.stops.specs.Stops.{numberOf, layerName}
 use Rattle.books.specs.declared.fault.BookFault.{BookFault}
 use Rattle.books.specs.Faults.{layerOf, foundOf}
 use Rattle.books.specs.Held.{Closed}
-use Rattle.books.specs.Reading.{Stopped, textBook}
+use Rattle.books.specs.TextBook.{Stopped, textBook}
 
 -- the line of a stop: its number, the line, the place and the layer's name
-abbrev pub stopped : ℕ → ℕ → ℕ → List ℕ → List ℕ
-stopped number line place layer =
+abbrev pub stopText : ℕ → ℕ → ℕ → List ℕ → List ℕ
+stopText number line place layer =
     codes "stop " ++ (decimal number ++ (codes " " ++ (decimal line ++ (codes " " ++ (decimal place ++ (codes " " ++ (layer ++ codes "\n")))))))
 
 abbrev pub stopLine : BookFault → List ℕ
-stopLine f = stopped (numberOf (foundOf f .stop)) (foundOf f .line) (foundOf f .place) (layerName (layerOf f))
+stopLine f = stopText (numberOf (foundOf f .stop)) (foundOf f .line) (foundOf f .place) (layerName (layerOf f))
 
 -- a good book: how many lines it has
 abbrev pub takenLine : ℕ → List ℕ

@@ -3,7 +3,7 @@ ghost use mathlib.Core.Path.{_≡_};
 ghost use Rattle.std.specs.Of.String.{string-bytes};
 ghost use Rattle.std.specs.Vec.{made};
 ghost use Rattle.stops.specs.Stops.{layerName};
-ghost use Rattle.reports.specs.Report.{reportOf, stopped};
+ghost use Rattle.reports.specs.Report.{reportOf, stopText};
 use books::memory::Memory;
 use books::reading::read_book;
 use std::alloc::AllocError;
@@ -11,7 +11,7 @@ use std::alloc::Global;
 use stops::Layer;
 use stops::LayerDisplay;
 
-// The line that a stopped reading prints.
+// The line that a stopText reading prints.
 fn stop_line(
     heap: Global,
     number: u8,
@@ -19,7 +19,7 @@ fn stop_line(
     place: usize,
     layer: Layer,
 ) -> Result<String, AllocError>
-    ensures { λ r. ⌜ made r (λ s. string-bytes s ≡ stopped number line place (layerName layer)) ⌝ }
+    ensures { λ r. ⌜ made r (λ s. string-bytes s ≡ stopText number line place (layerName layer)) ⌝ }
 {
     format!(heap, "stop {number} {line} {place} {layer}\n")
 }

@@ -1,7 +1,7 @@
 ghost use mathlib.Core.Path.{_≡_};
 ghost use Rattle.frames.specs.Frames.{content};
 ghost use Rattle.books.specs.Held.{draftOf, empty};
-ghost use Rattle.books.specs.Taking.{step, Taken, Shut};
+ghost use Rattle.books.specs.Taking.{afterFrame, Taken, Shut};
 use super::Book;
 use super::Draft;
 use crate::fault::BookFault;
@@ -32,7 +32,7 @@ impl Draft {
 
     // The draft with a line more; or the draft as it was, with the fault that refuses the line, and the memory as it was.
     pub fn take(self, memory: &mut Memory, frame: Frame<'_>) -> Result<Draft, (Draft, BookFault)>
-        ensures { λ r. ⌜ Taken (step (draftOf self (now (memory .entry))) (content (frame .entry))) self (now (memory .entry)) r (now (memory .exit)) ⌝ }
+        ensures { λ r. ⌜ Taken (afterFrame (draftOf self (now (memory .entry))) (content (frame .entry))) self (now (memory .entry)) r (now (memory .exit)) ⌝ }
     {
         if let Err(fault) = self.check_kind(frame) {
             return Err((self, BookFault::Found(fault)));

@@ -5,7 +5,7 @@ ghost use lib.ListN.{length};
 ghost use Rattle.std.specs.Vec.{made};
 ghost use Rattle.frames.specs.Frames.{content, pair, opening};
 ghost use Rattle.books.specs.Held.{draftOf};
-ghost use Rattle.books.specs.Lines.{nextLine};
+ghost use Rattle.books.specs.Adding.{nextLine};
 ghost use Rattle.books.specs.Taking.{within, uses, stepsCheck, runsCheck, partFits, partPlace, kindCheck, movementCheck, closingCheck, fieldsCheck};
 use super::Draft;
 use crate::memory::Closing;
@@ -123,7 +123,7 @@ fn part_place(frame: Frame<'_>) -> usize
 
 impl Draft {
     // The number of the line that comes next.
-    pub(super) fn next_line(&self) -> usize
+    pub(crate) fn next_line(&self) -> usize
         ensures { λ r. ⌜ r ≡ nextLine (now (self .entry) .lines) ⌝ }
     {
         (self.lines + 1).min(LONGEST_TEXT)

@@ -3,7 +3,7 @@ ghost use mathlib.Core.List.{_++_};
 ghost use Prim.Native.Nat.{_+_, _≤_};
 ghost use lib.ListN.{length, take};
 ghost use Rattle.books.specs.Held.{movementOf};
-ghost use Rattle.books.specs.Lines.{stepsOf, runsOf};
+ghost use Rattle.books.specs.Adding.{stepsOf, runsOf};
 use crate::memory::Route;
 use crate::memory::Run;
 use crate::memory::Step;

@@ -3,7 +3,7 @@ ghost use Prim.Native.Nat.{_≤_};
 ghost use lib.ListN.{length};
 ghost use Rattle.frames.specs.Frames.{movement, pair, opening, orderA, orderB, closing};
 ghost use Rattle.books.specs.Held.{draftOf};
-ghost use Rattle.books.specs.Taking.{stepFields, Taken};
+ghost use Rattle.books.specs.Taking.{afterFields, Taken};
 use super::Draft;
 use super::checks::check_runs;
 use super::parts::read_route;
@@ -31,7 +31,7 @@ impl Draft {
         steps: &[u8],
     ) -> Result<Draft, (Draft, BookFault)>
         requires { ⌜ length (now steps) ≤ 120 ⌝ }
-        ensures { λ r. ⌜ Taken (stepFields (draftOf self (now (memory .entry))) (movement number priority place (now (steps .entry)))) self (now (memory .entry)) r (now (memory .exit)) ⌝ }
+        ensures { λ r. ⌜ Taken (afterFields (draftOf self (now (memory .entry))) (movement number priority place (now (steps .entry)))) self (now (memory .entry)) r (now (memory .exit)) ⌝ }
     {
         let route = read_route(priority, steps);
         if let Err(fault) = self.check_movement(
@@ -56,7 +56,7 @@ impl Draft {
         second: u8,
         listed: Listed,
     ) -> Result<Draft, (Draft, BookFault)>
-        ensures { λ r. ⌜ Taken (stepFields (draftOf self (now (memory .entry))) (pair first second (listed .gap) (listed .weight))) self (now (memory .entry)) r (now (memory .exit)) ⌝ }
+        ensures { λ r. ⌜ Taken (afterFields (draftOf self (now (memory .entry))) (pair first second (listed .gap) (listed .weight))) self (now (memory .entry)) r (now (memory .exit)) ⌝ }
     {
         if let Err(fault) = self.check_pair(memory, first, second, listed) {
             return Err((self, BookFault::Found(fault)));
@@ -73,7 +73,7 @@ impl Draft {
         movement: u8,
         seconds: u32,
     ) -> Result<Draft, (Draft, BookFault)>
-        ensures { λ r. ⌜ Taken (stepFields (draftOf self (now (memory .entry))) (opening movement seconds)) self (now (memory .entry)) r (now (memory .exit)) ⌝ }
+        ensures { λ r. ⌜ Taken (afterFields (draftOf self (now (memory .entry))) (opening movement seconds)) self (now (memory .entry)) r (now (memory .exit)) ⌝ }
     {
         if let Err(fault) = self.check_opening(memory, movement, seconds) {
             return Err((self, BookFault::Found(fault)));
@@ -90,7 +90,7 @@ impl Draft {
         place: u8,
         runs: &[u8],
     ) -> Result<Draft, (Draft, BookFault)>
-        ensures { λ r. ⌜ Taken (stepFields (draftOf self (now (memory .entry))) (orderA place (now (runs .entry)))) self (now (memory .entry)) r (now (memory .exit)) ⌝ }
+        ensures { λ r. ⌜ Taken (afterFields (draftOf self (now (memory .entry))) (orderA place (now (runs .entry)))) self (now (memory .entry)) r (now (memory .exit)) ⌝ }
     {
         let line = self.next_line();
         if let Err(fault) = check_runs(line, self.movements, self.runs_a, place, runs) {
@@ -109,7 +109,7 @@ impl Draft {
         place: u8,
         runs: &[u8],
     ) -> Result<Draft, (Draft, BookFault)>
-        ensures { λ r. ⌜ Taken (stepFields (draftOf self (now (memory .entry))) (orderB place (now (runs .entry)))) self (now (memory .entry)) r (now (memory .exit)) ⌝ }
+        ensures { λ r. ⌜ Taken (afterFields (draftOf self (now (memory .entry))) (orderB place (now (runs .entry)))) self (now (memory .entry)) r (now (memory .exit)) ⌝ }
     {
         let line = self.next_line();
         if let Err(fault) = check_runs(line, self.movements, self.runs_b, place, runs) {
@@ -127,7 +127,7 @@ impl Draft {
         memory: &mut Memory,
         line: Closing,
     ) -> Result<Draft, (Draft, BookFault)>
-        ensures { λ r. ⌜ Taken (stepFields (draftOf self (now (memory .entry))) (closing (line .movement) (line .window))) self (now (memory .entry)) r (now (memory .exit)) ⌝ }
+        ensures { λ r. ⌜ Taken (afterFields (draftOf self (now (memory .entry))) (closing (line .movement) (line .window))) self (now (memory .entry)) r (now (memory .exit)) ⌝ }
     {
         if let Err(fault) = self.check_closing(line) {
             return Err((self, BookFault::Found(fault)));

@@ -1,7 +1,7 @@
 use mathlib.Core.Path.{sym, ap, _∙_}
 use Rattle.std.proofs.shelf.Results.{err-from-errBy}
 use Rattle.frames.specs.Frames.{meant}
-use Rattle.books.specs.Reading.{inBook}
+use Rattle.books.specs.TextBook.{inBook}
 use Rattle.books.proofs.Readings.{frame-known}
 use Rattle.books.proofs.reading.decoded_frame.Needs as need
 

@@ -1,19 +1,14 @@
 use mathlib.Core.Path.{_≡_}
-use Prim.Native.Nat.{_+_, _≤_}
 use lib.ListN.{length}
-use denote.Ref.{now}
 use Rattle.std.specs.declared.result.Result.the-variants.{Ok}
 use Rattle.lines.specs.Texts.{linesOf}
 use Rattle.lines.specs.Reading.{unread}
 use Rattle.books.specs.Held.{draftOf, empty}
-use Rattle.books.specs.Reading.{through}
+use Rattle.books.specs.TextBook.{through}
 use Rattle.books.proofs.reading.read_book.Given as given
 
 abbrev pub Inv-loop-line : given.InvT-loop-line
-Inv-loop-line l =
-    (through (Ok (draftOf (l .draft) (l .memory))) (linesOf (unread (l .reader))) ≡ through (Ok empty) (linesOf (l .text)))
-    × (l .reader .lines ≡ l .draft .lines)
-    × (l .reader .lines + length (linesOf (unread (l .reader))) ≤ 65536)
+Inv-loop-line l = through (Ok (draftOf (l .draft) (l .memory))) (linesOf (unread (l .reader))) ≡ through (Ok empty) (linesOf (l .text))
 
 abbrev pub μ-loop-line : given.MeasureT-loop-line
 μ-loop-line l = length (linesOf (unread (l .reader)))

@@ -5,7 +5,7 @@ use lib.ListN.{length}
 use Rattle.std.specs.declared.result.Result.the-variants.{Ok}
 use Rattle.frames.specs.Frames.{movement}
 use Rattle.books.specs.Held.{draftOf}
-use Rattle.books.specs.Lines.{nextLine}
+use Rattle.books.specs.Adding.{nextLine}
 use Rattle.books.specs.Taking.{movementCheck}
 use Rattle.books.proofs.Takes.{count-movements, refused, accepted, route-steps, movement-more}
 use Rattle.books.proofs.state.Draft.take_movement.Needs as need

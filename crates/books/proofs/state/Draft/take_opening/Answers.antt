@@ -5,7 +5,7 @@ use Rattle.std.specs.declared.option.Option.the-variants.{Some}
 use Rattle.std.specs.declared.result.Result.the-variants.{Ok}
 use Rattle.frames.specs.Frames.{opening}
 use Rattle.books.specs.Held.{draftOf}
-use Rattle.books.specs.Lines.{given}
+use Rattle.books.specs.Adding.{given}
 use Rattle.books.proofs.Takes.{count-movements, refused, accepted}
 use Rattle.books.proofs.state.Draft.take_opening.Needs as need
 

@@ -5,7 +5,7 @@ use borrow.Author.Tests.{ltb-true, ltb-false}
 use lib.ListN.{length, getD}
 use Rattle.std.proofs.shelf.Lists.{take-rest}
 use Rattle.books.specs.declared.memory.Step.{Step}
-use Rattle.books.specs.Lines.{stepOf}
+use Rattle.books.specs.Adding.{stepOf}
 use Rattle.books.proofs.Loops.{read-more, read-done}
 use Rattle.books.proofs.state.parts.read_route.Needs as need
 

@@ -22,8 +22,8 @@ use Rattle.books.specs.declared.memory.Memory.{Memory}
 use Rattle.books.specs.declared.state.Draft.{Draft}
 use Rattle.books.specs.declared.state.Book.{Book}
 use Rattle.books.specs.Held.{Drafted, Closed, empty, draftOf, bookOf}
-use Rattle.books.specs.Lines.{nextLine}
-use Rattle.books.specs.Taking.{step, closed}
+use Rattle.books.specs.Adding.{nextLine}
+use Rattle.books.specs.Taking.{afterFrame, closed}
 
 -- what the frame layer says; the book layer passes its fault on whole
 abbrev pub inBook : Result Content FrameFault → Result Content BookFault
@@ -36,21 +36,21 @@ known (Ok f) = Ok (content f)
 known (Err e) = Err e
 
 -- what a line that was read so makes of a draft
-abbrev pub stepWith : Drafted → Result Content BookFault → Result Drafted BookFault
-stepWith h (Ok c) = step h c
-stepWith h (Err f) = Err f
+abbrev pub afterReading : Drafted → Result Content BookFault → Result Drafted BookFault
+afterReading h (Ok c) = afterFrame h c
+afterReading h (Err f) = Err f
 
 -- what the front of a buffer says, where the line was decoded into it
 abbrev pub frameIn : ℕ → Result ℕ TextFault → List ℕ → Result Content BookFault
 frameIn line (Ok n) buffer = inBook (frameOf line (take n buffer))
 frameIn line (Err e) buffer = Err (Frame (Text e))
 
--- a draft after one line of the text more
-abbrev pub lineStep : ℕ → Drafted → List ℕ → Result Drafted BookFault
-lineStep number h chars = stepWith h (inBook (lineFrame number chars))
+-- a draft after one line of the text more: the line's characters are read as its frame, and the frame is taken
+abbrev pub afterLine : Drafted → List ℕ → Result Drafted BookFault
+afterLine h chars = afterReading h (inBook (lineFrame (nextLine (h .lines)) chars))
 
--- what a refused line leaves in the buffer: nothing where its characters are at fault, else the line's bytes stand in
--- its front, as they do after a line that is taken
+-- the buffer after a line: as it was where the line's characters are at fault, else the line's bytes in its front, and
+-- the rest as it was
 abbrev pub Buffered : Result (List ℕ) TextFault → List ℕ → List ℕ → Type 0
 Buffered (Ok bs) old new = (take (length bs) new ≡ bs) × (drop (length bs) new ≡ drop (length bs) old)
 Buffered (Err e) old new = new ≡ old
@@ -60,13 +60,14 @@ pub record Stopped : Type 0 where
   pub held : Drafted
   pub fault : BookFault
 
+-- a fault, with the draft that it left
 abbrev pub orStopped : {X : Type 0} → Drafted → Result X BookFault → Result X Stopped
 orStopped h (Ok x) = Ok x
 orStopped h (Err f) = Err (record { held = h; fault = f })
 
 -- one line more; after a stop no line is read
 abbrev pub further : Result Drafted Stopped → List ℕ → Result Drafted Stopped
-further (Ok h) l = orStopped h (lineStep (nextLine (h .lines)) h l)
+further (Ok h) l = orStopped h (afterLine h l)
 further (Err s) l = Err s
 
 -- line after line
@@ -74,6 +75,7 @@ abbrev pub through : Result Drafted Stopped → List (List ℕ) → Result Draft
 through r [] = r
 through r (l ∷ ls) = through (further r l) ls
 
+-- a reading that came to the end of the text closes its draft
 abbrev pub shut : Result Drafted Stopped → Result Closed Stopped
 shut (Ok h) = orStopped h (closed h)
 shut (Err s) = Err s
