@@ -260,16 +260,15 @@ lines-before [] cs h s after room e = absurd (let z : _≡_ {A = ℕ} 0 1 = cc i
 lines-before (l ∷ ls) cs h s after room e =
     ⊎-elim
     (λ (on : (x : Drafted) × (afterLine h l ≡ Ok x) × (through (Ok x) ls ≡ Err s)).
-      let p = with-passed h (on .0) (inBook (lineFrame (nextLine (h .lines)) l)) (on .1) in
-      let c = p .0 in
-      let number : nextLine (h .lines) ≡ length cs + 1 = omega (arith, after .counts) in
-      let more = length-push cs c in
-      let rest = lines-before ls (cs ++ c ∷ []) (on .0) s (after-more cs h (on .0) c after (p .2)) (omega arith) (on .2) in
-      (
-        c ∷ rest .0,
-        (ap (λ n. lineFrame n l) (sym number) ∙ in-frame (lineFrame (nextLine (h .lines)) l) c (p .1), subst (λ n. ReadAs (n + 1) (take (length (rest .0)) ls) (rest .0)) more (rest .1)),
-        subst (λ x. After x (s .held)) (append-assoc cs (c ∷ []) (rest .0)) (rest .2)
-      ))
+    let p = with-passed h (on .0) (inBook (lineFrame (nextLine (h .lines)) l)) (on .1) in
+    let c = p .0 in
+    let number : nextLine (h .lines) ≡ length cs + 1 = omega (arith, after .counts) in
+    let more = length-push cs c in
+    let rest = lines-before ls (cs ++ c ∷ []) (on .0) s (after-more cs h (on .0) c after (p .2)) (omega arith) (on .2) in (
+      c ∷ rest .0,
+      (ap (λ n. lineFrame n l) (sym number) ∙ in-frame (lineFrame (nextLine (h .lines)) l) c (p .1), subst (λ n. ReadAs (n + 1) (take (length (rest .0)) ls) (rest .0)) more (rest .1)),
+      subst (λ x. After x (s .held)) (append-assoc cs (c ∷ []) (rest .0)) (rest .2),
+    ))
     (λ here. ([], tt, subst (λ x. After x (s .held)) (sym (append-nil cs)) (subst (After cs) here after)))
     (on-err h s (afterLine h l) ls e)
 
@@ -291,22 +290,22 @@ front-says text s short e =
     let few : length (linesOf text) ≤ longestText = omega (arith, lines-few text) in
     ⊎-elim
     (λ all.
-      let lines = lines-after (linesOf text) [] empty (s .held) begun (omega arith) all in
-      let long = read-long 1 (linesOf text) (lines .0) (lines .1) in
-      let read = subst (λ ls. ReadAs 1 ls (lines .0)) (sym (take-all (length (lines .0)) (linesOf text) (omega arith))) (lines .1) in
-      record { contents = lines .0; read = read; says = yet (linesOf text) (lines .0) (s .held) (lines .2) read few })
+    let lines = lines-after (linesOf text) [] empty (s .held) begun (omega arith) all in
+    let long = read-long 1 (linesOf text) (lines .0) (lines .1) in
+    let read = subst (λ ls. ReadAs 1 ls (lines .0)) (sym (take-all (length (lines .0)) (linesOf text) (omega arith))) (lines .1) in
+    record { contents = lines .0; read = read; says = yet (linesOf text) (lines .0) (s .held) (lines .2) read few })
     (λ some.
-      let lines = lines-before (linesOf text) [] empty s begun (omega arith) some in
-      record { contents = lines .0; read = lines .1; says = yet (linesOf text) (lines .0) (s .held) (lines .2) (lines .1) few })
+    let lines = lines-before (linesOf text) [] empty s begun (omega arith) some in
+    record { contents = lines .0; read = lines .1; says = yet (linesOf text) (lines .0) (s .held) (lines .2) (lines .1) few })
     (shut-err (through (Ok empty) (linesOf text)) s e)
 
 stop-says : (text : List ℕ) (s : Stopped) → textBook text ≡ Err s → HoldsFirst text (s .held)
 stop-says text s e =
     ⊎-elim
     (λ long.
-      let same : longStop ≡ s = long-stop text s long e in
-      subst (λ (x : Stopped). HoldsFirst text (x .held)) same
-      (record { contents = []; read = tt; says = record { gives = begun .entries .gives; closes = refl; counts = refl } }))
+    let same : longStop ≡ s = long-stop text s long e in
+    subst (λ (x : Stopped). HoldsFirst text (x .held)) same
+    (record { contents = []; read = tt; says = record { gives = begun .entries .gives; closes = refl; counts = refl } }))
     (λ short. front-says text s short (sym (text-read text short) ∙ e))
     (cases-lt longestText (length text))
 

@@ -12,10 +12,11 @@ use Rattle.books.specs.declared.memory.Run.{Run}
 use Rattle.books.specs.declared.memory.Closing.{Closing}
 use Rattle.books.specs.Held.{Movement, Entries, Drafted}
 
--- five bytes make a step: its section, two bytes of set time, two of release time
+-- five bytes make a step: its section, two bytes of set, two of release
 abbrev pub stepOf : ℕ → ℕ → ℕ → ℕ → ℕ → Step
 stepOf s a b c d = record { section = s; set = big2 a b; release = big2 c d }
 
+-- the steps of a list of bytes; bytes at its end that make no whole step are left out
 abbrev pub stepsOf : List ℕ → List Step
 stepsOf [] = []
 stepsOf (s ∷ []) = []
@@ -28,12 +29,15 @@ stepsOf (s ∷ a ∷ b ∷ c ∷ d ∷ rest) = stepOf s a b c d ∷ stepsOf rest
 abbrev pub runOf : ℕ → Run
 runOf m = record { movement = m }
 
+-- the runs of a list of bytes
 abbrev pub runsOf : List ℕ → List Run
 runsOf = map runOf
 
+-- a listed gap: its seconds and its weight
 abbrev pub listedOf : ℕ → ℕ → Listed
 listedOf g w = record { gap = g; weight = w }
 
+-- a closing: its movement and its window
 abbrev pub closingOf : ℕ → ℕ → Closing
 closingOf m w = record { movement = m; window = w }
 
@@ -46,6 +50,7 @@ given e (orderA l r) = record { movements = e .movements; table = e .table; open
 given e (orderB l r) = record { movements = e .movements; table = e .table; openings = e .openings; orderA = e .orderA; orderB = e .orderB ++ runsOf r }
 given e (closing m w) = e
 
+-- a closing line gives the closing, and no other line does
 abbrev pub closingAfter : Option Closing → Content → Option Closing
 closingAfter old (movement n p l s) = old
 closingAfter old (pair a b g w) = old
@@ -54,7 +59,8 @@ closingAfter old (orderA l r) = old
 closingAfter old (orderB l r) = old
 closingAfter old (closing m w) = Some (closingOf m w)
 
--- the number of the line after n lines; no text has more lines than characters, so the count stays there
+-- the number of the line after n lines. No text has more lines than characters, so that the count stays at that number
+-- is never seen of a text
 abbrev pub nextLine : ℕ → ℕ
 nextLine n = min (n + 1) longestText
 

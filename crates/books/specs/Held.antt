@@ -41,11 +41,11 @@ pub record Closed : Type 0 where
   pub entries : Entries
   pub closing : Closing
 
--- what the table lists for a after b, counted from 1
+-- what the table lists for the pair (a, b): the gap that a later run of b keeps from a run of a
 abbrev pub listed : Entries → ℕ → ℕ → Option Listed
 listed e a b = getD (getD (e .table) (a - 1) []) (b - 1) None
 
--- the opening of m, counted from 1
+-- what was given as the opening of m
 abbrev pub opened : Entries → ℕ → Option ℕ
 opened e m = getD (e .openings) (m - 1) None
 

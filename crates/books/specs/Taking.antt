@@ -33,9 +33,9 @@ mostMovements = 64
 abbrev pub mostRuns : ℕ
 mostRuns = 512
 
--- priorities and weights are 0 to 9
-abbrev pub highestRank : ℕ
-highestRank = 9
+-- a priority becomes a weight; both are 0 to 9
+abbrev pub highestWeight : ℕ
+highestWeight = 9
 
 -- a window is 1 to 86,400 seconds
 abbrev pub longestWindow : ℕ
@@ -52,7 +52,7 @@ passed = Ok tt
 abbrev pub stopIf : Bool → Fault → Check → Check
 stopIf b f next = cond b (Err f) next
 
--- m is one of n movements
+-- m is 1 to n
 abbrev pub within : ℕ → ℕ → Bool
 within n m = leb 1 m && leb m n
 
@@ -83,7 +83,7 @@ abbrev pub movementCheck : ℕ → ℕ → ℕ → ℕ → ℕ → List Step →
 movementCheck line n m p place steps =
     stopIf (leb mostMovements n) (fault Full line 2)
     (stopIf (not (eqb m (n + 1))) (fault OutOfSequence line 2)
-    (stopIf (ltb highestRank p) (fault OutOfRange line 3)
+    (stopIf (ltb highestWeight p) (fault OutOfRange line 3)
     (stepsCheck line place [] steps)))
 
 -- a closing: its movement is there, and its window is in bounds
@@ -93,14 +93,14 @@ closingCheck line n m w =
     (stopIf (not (within longestWindow w)) (fault OutOfRange line 3)
     passed)
 
--- the fields of a line, from left to right
+-- the tests of each kind, in their order
 abbrev pub fieldsCheck : ℕ → ℕ → Drafted → Content → Check
 fieldsCheck line n h (movement m p place s) = movementCheck line n m p place (stepsOf s)
 fieldsCheck line n h (pair a b g w) =
     stopIf (not (within n a)) (fault NoSuchMovement line 2)
     (stopIf (not (within n b)) (fault NoSuchMovement line 3)
     (stopIf (isSome (listed (h .entries) a b)) (fault GivenBefore line 3)
-    (stopIf (ltb highestRank w) (fault OutOfRange line 6)
+    (stopIf (ltb highestWeight w) (fault OutOfRange line 6)
     passed)))
 fieldsCheck line n h (opening m s) =
     stopIf (not (within n m)) (fault NoSuchMovement line 2)
@@ -110,7 +110,7 @@ fieldsCheck line n h (orderA place r) = runsCheck line n (length (h .entries .or
 fieldsCheck line n h (orderB place r) = runsCheck line n (length (h .entries .orderB)) place r
 fieldsCheck line n h (closing m w) = closingCheck line n m w
 
--- the kind of a line: not below that of the last line taken, and not a second closing
+-- the kind is below that of the last line taken, or it is a second closing
 abbrev pub notInSequence : ℕ → ℕ → Bool
 notInSequence last kind = ltb kind last || (eqb kind closingKind && eqb last closingKind)
 
@@ -144,15 +144,16 @@ abbrev pub judged : Check → Drafted → Result Drafted BookFault
 judged (Ok u) h = Ok h
 judged (Err f) h = Err (Found f)
 
--- a line whose kind is in sequence
+-- a draft after a line whose kind is in sequence
 abbrev pub afterFields : Drafted → Content → Result Drafted BookFault
 afterFields h c = judged (fieldsCheck (nextLine (h .lines)) (length (h .entries .movements)) h c) (added h c)
 
+-- the tests of the fields come after those of length and kind
 abbrev pub afterKind : Check → Drafted → Content → Result Drafted BookFault
 afterKind (Ok u) h c = afterFields h c
 afterKind (Err f) h c = Err (Found f)
 
--- a draft after one line more
+-- a draft after one frame more
 abbrev pub afterFrame : Drafted → Content → Result Drafted BookFault
 afterFrame h c = afterKind (kindCheck (nextLine (h .lines)) (h .last) c) h c
 
@@ -161,11 +162,12 @@ abbrev pub Taken : Result Drafted BookFault → Draft → Memory → Result Draf
 Taken s d m (Ok d′) m′ = s ≡ Ok (draftOf d′ m′)
 Taken s d m (Err e) m′ = (s ≡ Err (e .1)) × (e .0 ≡ d) × (m′ ≡ m)
 
--- a draft closes where it has a movement and a closing line; line and place of the fault are the lines taken and 0
+-- a draft with no closing line does not close; line and place of the fault are the lines taken and 0
 abbrev pub withClosing : Drafted → Option Closing → Result Closed BookFault
 withClosing h (Some c) = Ok (record { lines = h .lines; entries = h .entries; closing = c })
 withClosing h None = Err (Found (fault Unfinished (h .lines) 0))
 
+-- a draft with no movement does not close either
 abbrev pub closed : Drafted → Result Closed BookFault
 closed h = cond (eqb (length (h .entries .movements)) 0) (Err (Found (fault Unfinished (h .lines) 0))) (withClosing h (h .closing))
 

@@ -9,7 +9,7 @@ pub const MOST_MOVEMENTS: usize = 64;
 
 pub const MOST_RUNS: usize = 512;
 
-// One section of a movement's way: it is set so many seconds after the movement's start, and released so many after.
+// One section of a movement's way: from a run's start, the seconds until it is set and until it is released.
 #[derive(Clone, Copy)]
 pub struct Step {
     pub section: u8,
@@ -17,7 +17,7 @@ pub struct Step {
     pub release: u16,
 }
 
-// A movement as its line gave it: its priority and its steps, which stand at the row's front.
+// A movement as its line gave it: its priority, and its steps, which are the first `count` of the array.
 #[derive(Clone, Copy)]
 pub struct Route {
     pub(crate) priority: u8,
@@ -38,7 +38,7 @@ pub struct Run {
     pub movement: u8,
 }
 
-// The movement whose standing is the occupation, and the window in seconds that it is held against.
+// The closing movement, and the window in seconds of which the occupation is a percentage.
 #[derive(Clone, Copy)]
 pub struct Closing {
     pub movement: u8,

@@ -48,7 +48,10 @@ impl Draft {
         ensures buffer { λ _. ⌜ Buffered (lineBytes (nextLine (self .lines)) (now (characters .entry))) (now (buffer .entry)) (now (buffer .exit)) ⌝ }
     {
         let number = self.next_line();
-        let line = Line { number, part: characters };
+        let line = Line {
+            number,
+            part: characters,
+        };
         let decoded = line.decode(buffer);
         match decoded_frame(number, decoded, buffer) {
             Ok(frame) => self.take(memory, frame),

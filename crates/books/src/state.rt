@@ -6,7 +6,7 @@ mod checks;
 mod parts;
 mod takes;
 
-// A book that takes lines yet: how many lines and movements it has, the kind of its last line, and how many runs each
+// A book that still takes lines: how many lines and movements it has, the kind of its last line, and how many runs each
 // of its orders has. The rest of what it holds stands in the memory that is lent to each call. A draft is not copied,
 // is made only by beginning one, and goes on as a draft, as a book, or by being given up.
 pub struct Draft {

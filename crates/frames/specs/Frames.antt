@@ -17,7 +17,7 @@ use Rattle.frames.specs.declared.fault.FrameFault.{FrameFault}
 use Rattle.frames.specs.declared.fault.FrameFault.the-variants.{Text, Found}
 use Rattle.frames.specs.Kinds.{movementKind, pairKind, openingKind, orderAKind, orderBKind, closingKind, movementLength, pairLength, openingLength, orderLength, closingLength}
 
--- what a line says, with lists in the place of slices; steps and runs are bytes yet, with the place where they begin
+-- what a line says, with lists in the place of slices; steps and runs are still bytes, with the place where they begin
 pub data Content : Type 0 where
   -- number, priority, place of the steps, steps
   movement : ℕ → ℕ → ℕ → List ℕ → Content
@@ -40,6 +40,7 @@ content (OrderA l r) = orderA l (r .now)
 content (OrderB l r) = orderB l (r .now)
 content (Closing m w) = closing m w
 
+-- the number of the kind
 abbrev pub kindOf : Content → ℕ
 kindOf (movement n p l s) = movementKind
 kindOf (pair a b g w) = pairKind
@@ -48,6 +49,7 @@ kindOf (orderA l r) = orderAKind
 kindOf (orderB l r) = orderBKind
 kindOf (closing m w) = closingKind
 
+-- what was read, with what a frame says in the place of the frame
 abbrev pub meant : Result Frame FrameFault → Result Content FrameFault
 meant (Ok f) = Ok (content f)
 meant (Err e) = Err e

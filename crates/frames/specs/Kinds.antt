@@ -28,7 +28,7 @@ stepsLength n = eqb (n % 5) 0 && leb 5 n && leb n 120
 
 -- kind, number and priority, then steps
 abbrev pub movementLength : ℕ → Bool
-movementLength n = leb 3 n && stepsLength (n - 3)
+movementLength n = stepsLength (n - 3)
 
 -- kind, first, second, two bytes of gap, weight
 abbrev pub pairLength : ℕ → Bool

@@ -122,11 +122,11 @@ impl<'a> Frame<'a> {
                 let seconds = three(s2, s1, s0);
                 Ok(Frame::Opening { movement, seconds })
             }
-            [ORDER_A, ref runs @ ..] if runs.len() > 0 => {
+            [ORDER_A, ref runs @ ..] if !runs.is_empty() => {
                 let place = RUNS_PLACE;
                 Ok(Frame::OrderA { place, runs })
             }
-            [ORDER_B, ref runs @ ..] if runs.len() > 0 => {
+            [ORDER_B, ref runs @ ..] if !runs.is_empty() => {
                 let place = RUNS_PLACE;
                 Ok(Frame::OrderB { place, runs })
             }

@@ -26,9 +26,11 @@ isDecimal c = leb 48 c && leb c 57
 abbrev pub isLetter : ℕ → Bool
 isLetter c = leb 65 c && leb c 70
 
+-- a hexadecimal digit
 abbrev pub isHex : ℕ → Bool
 isHex c = isDecimal c || isLetter c
 
+-- every character is a digit
 abbrev pub allHex : List ℕ → Bool
 allHex [] = true
 allHex (c ∷ cs) = isHex c && allHex cs
@@ -48,6 +50,7 @@ bytesOf [] = []
 bytesOf (h ∷ []) = []
 bytesOf (h ∷ l ∷ cs) = (nibbleOf h * 16 + nibbleOf l) ∷ bytesOf cs
 
+-- the bytes of a line that is not too long, by the place of its first bad character
 abbrev pub evenBytes : ℕ → List ℕ → Option ℕ → Result (List ℕ) TextFault
 evenBytes number line (Some place) = Err (textFault NotADigit number place)
 evenBytes number line None = cond (eqb (length line % 2) 0) (Ok (bytesOf line)) (Err (textFault OddDigits number (length line)))

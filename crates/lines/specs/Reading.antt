@@ -27,13 +27,13 @@ textFault s l p = record { found = fault s l p }
 abbrev pub unread : Reader → List ℕ
 unread r = drop (r .at) (r .text .now)
 
--- a reader that begins: nothing is read, and what it will yield are the lines of the text
+-- a reader that begins: nothing is read. What it will yield are the lines of the text, by the law that fixes them
 pub record Begins (text : List ℕ) (r : Reader) : Type 0 where
   pub all : unread r ≡ text
   pub none : r .lines ≡ 0
   pub cut : Lines text (linesOf (unread r))
 
--- a text that is too long has no line, so the fault names line 0 and place 0
+-- no line of a text that is too long is at fault, so the fault names line 0 and place 0
 abbrev pub Measured : List ℕ → Result (Unit {0}) TextFault → Type 0
 Measured text (Ok u) = length text ≤ longestText
 Measured text (Err f) = (longestText < length text) × (f ≡ textFault TooLong 0 0)

@@ -10,8 +10,8 @@ use stops::Stop;
 // A line has at most this many characters, its line end not counted.
 pub const LONGEST_LINE: usize = 246;
 
-// So many bytes the longest line spells.
-pub const MOST_BYTES: usize = 123;
+// The longest line spells this many bytes.
+pub const MOST_BYTES: usize = LONGEST_LINE / 2;
 
 fn is_hex(c: u8) -> bool
     ensures { λ r. ⌜ r ≡ isHex c ⌝ }
@@ -31,7 +31,7 @@ fn nibble(c: u8) -> u8
     }
 }
 
-// Whether every character is a digit. It looks at all of them, with no way out of the loop, which is the fast way.
+// Whether every character is a digit. A loop with one way out is compiled to wide instructions.
 fn all_hex(line: &[u8]) -> bool
     ensures { λ r. ⌜ r ≡ allHex (now (line .entry)) ⌝ }
 {
@@ -57,7 +57,7 @@ fn bad_place(line: &[u8]) -> Option<usize>
     None
 }
 
-// Two digits make a byte, the high one first.
+// Writes the line's bytes to the buffer's front: two digits make a byte, the high one first.
 fn write_bytes(line: &[u8], buffer: &mut [u8; MOST_BYTES])
     requires { ⌜ length (bytesOf (now line)) ≤ 123 ⌝ }
     ensures { λ _. ⌜ Spelt (now (line .entry)) (now (buffer .entry)) (now (buffer .exit)) ⌝ }

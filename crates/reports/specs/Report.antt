@@ -16,6 +16,7 @@ abbrev pub stopText : ℕ → ℕ → ℕ → List ℕ → List ℕ
 stopText number line place layer =
     codes "stop " ++ (decimal number ++ (codes " " ++ (decimal line ++ (codes " " ++ (decimal place ++ (codes " " ++ (layer ++ codes "\n")))))))
 
+-- the line of a fault
 abbrev pub stopLine : BookFault → List ℕ
 stopLine f = stopText (numberOf (foundOf f .stop)) (foundOf f .line) (foundOf f .place) (layerName (layerOf f))
 
@@ -23,9 +24,11 @@ stopLine f = stopText (numberOf (foundOf f .stop)) (foundOf f .line) (foundOf f 
 abbrev pub takenLine : ℕ → List ℕ
 takenLine n = codes "taken " ++ (decimal n ++ codes "\n")
 
+-- what is printed of a reading
 abbrev pub printed : Result Closed Stopped → List ℕ
 printed (Ok b) = takenLine (b .lines)
 printed (Err s) = stopLine (s .fault)
 
+-- the report of a text
 abbrev pub reportOf : List ℕ → List ℕ
 reportOf text = printed (textBook text)

@@ -8,6 +8,7 @@ use Rattle.stops.specs.declared.Fault.{Fault}
 use Rattle.stops.specs.declared.Layer.{Layer}
 use Rattle.stops.specs.declared.Layer.the-variants.{Text, Frame, Book}
 
+-- the number by which planners know a stop, and when it comes
 abbrev pub numberOf : Stop → ℕ
 -- a line of an odd number of digits
 numberOf OddDigits = 1

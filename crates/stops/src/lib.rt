@@ -28,7 +28,8 @@ pub enum Layer {
     Book,
 }
 
-// A stop with the line where it was found, counted from 1, and the place in that line, counted from 1.
+// A stop with the line where it was found and the place in that line, both counted from 1. A text that is too long has
+// line 0 and place 0; a draft that does not close has the count of its lines and place 0.
 #[derive(Clone, Copy, PartialEq, Eq, Debug)]
 pub struct Fault {
     pub stop: Stop,

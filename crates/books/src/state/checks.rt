@@ -23,15 +23,20 @@ use lines::reader::LONGEST_TEXT;
 use stops::Fault;
 use stops::Stop;
 
-// The places of a line's first and second field, and of a pair's weight.
-const FIRST_PLACE: usize = 2;
+// The places of a line's fields: of the movement (or the first of a pair), the second of a pair, the priority, the
+// window, and a pair's weight.
+const MOVEMENT_PLACE: usize = 2;
 
 const SECOND_PLACE: usize = 3;
 
+const PRIORITY_PLACE: usize = 3;
+
+const WINDOW_PLACE: usize = 3;
+
 const WEIGHT_PLACE: usize = 6;
 
-// The greatest priority and the greatest weight.
-const HIGHEST_RANK: u8 = 9;
+// The greatest priority, and the greatest weight.
+const HIGHEST_WEIGHT: u8 = 9;
 
 // The longest window, in seconds.
 const LONGEST_WINDOW: u32 = 86_400;
@@ -105,7 +110,7 @@ fn part_fits(frame: Frame<'_>) -> bool
 {
     match frame {
         Frame::Movement { steps, .. } => are_whole_steps(steps.len()),
-        Frame::OrderA { runs, .. } | Frame::OrderB { runs, .. } => runs.len() > 0,
+        Frame::OrderA { runs, .. } | Frame::OrderB { runs, .. } => !runs.is_empty(),
         Frame::Pair { .. } | Frame::Opening { .. } | Frame::Closing { .. } => true,
     }
 }
@@ -129,7 +134,7 @@ impl Draft {
         (self.lines + 1).min(LONGEST_TEXT)
     }
 
-    // The line's length, then its kind, which does not go back and closes once.
+    // The line's length, then its kind: not below that of the last line, and not a second closing.
     pub(super) fn check_kind(&self, frame: Frame<'_>) -> Result<(), Fault>
         ensures { λ r. ⌜ r ≡ kindCheck (nextLine (now (self .entry) .lines)) (now (self .entry) .«last_kind») (content (frame .entry)) ⌝ }
     {
@@ -158,13 +163,13 @@ impl Draft {
     {
         let line = self.next_line();
         if self.movements >= MOST_MOVEMENTS {
-            return Err(Fault::at(Stop::Full, line, FIRST_PLACE));
+            return Err(Fault::at(Stop::Full, line, MOVEMENT_PLACE));
         }
         if number as usize != self.movements + 1 {
-            return Err(Fault::at(Stop::OutOfSequence, line, FIRST_PLACE));
+            return Err(Fault::at(Stop::OutOfSequence, line, MOVEMENT_PLACE));
         }
-        if priority > HIGHEST_RANK {
-            return Err(Fault::at(Stop::OutOfRange, line, SECOND_PLACE));
+        if priority > HIGHEST_WEIGHT {
+            return Err(Fault::at(Stop::OutOfRange, line, PRIORITY_PLACE));
         }
         check_steps(line, place, steps)
     }
@@ -181,7 +186,7 @@ impl Draft {
     {
         let line = self.next_line();
         if !is_within(self.movements, first) {
-            return Err(Fault::at(Stop::NoSuchMovement, line, FIRST_PLACE));
+            return Err(Fault::at(Stop::NoSuchMovement, line, MOVEMENT_PLACE));
         }
         if !is_within(self.movements, second) {
             return Err(Fault::at(Stop::NoSuchMovement, line, SECOND_PLACE));
@@ -191,7 +196,7 @@ impl Draft {
             .is_some() {
             return Err(Fault::at(Stop::GivenBefore, line, SECOND_PLACE));
         }
-        if listed.weight > HIGHEST_RANK {
+        if listed.weight > HIGHEST_WEIGHT {
             return Err(Fault::at(Stop::OutOfRange, line, WEIGHT_PLACE));
         }
         Ok(())
@@ -208,10 +213,10 @@ impl Draft {
     {
         let line = self.next_line();
         if !is_within(self.movements, movement) {
-            return Err(Fault::at(Stop::NoSuchMovement, line, FIRST_PLACE));
+            return Err(Fault::at(Stop::NoSuchMovement, line, MOVEMENT_PLACE));
         }
         if memory.openings[movement as usize - 1].is_some() {
-            return Err(Fault::at(Stop::GivenBefore, line, FIRST_PLACE));
+            return Err(Fault::at(Stop::GivenBefore, line, MOVEMENT_PLACE));
         }
         Ok(())
     }
@@ -222,10 +227,10 @@ impl Draft {
     {
         let line = self.next_line();
         if !is_within(self.movements, closing.movement) {
-            return Err(Fault::at(Stop::NoSuchMovement, line, FIRST_PLACE));
+            return Err(Fault::at(Stop::NoSuchMovement, line, MOVEMENT_PLACE));
         }
         if closing.window < 1 || closing.window > LONGEST_WINDOW {
-            return Err(Fault::at(Stop::OutOfRange, line, SECOND_PLACE));
+            return Err(Fault::at(Stop::OutOfRange, line, WINDOW_PLACE));
         }
         Ok(())
     }
