@@ -93,14 +93,14 @@ impl Draft {
         ensures { λ r. ⌜ r ≡ self .lines ⌝ }
     {
         let Draft {
-            lines,
+            lines: taken,
             last_kind: _,
             movements: _,
             runs_a: _,
             runs_b: _,
             closing: _,
         } = self;
-        lines
+        taken
     }
 }
 

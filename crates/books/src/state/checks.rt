@@ -191,9 +191,8 @@ impl Draft {
         if !is_within(self.movements, second) {
             return Err(Fault::at(Stop::NoSuchMovement, line, SECOND_PLACE));
         }
-        if memory
-            .table[first as usize - 1][second as usize - 1]
-            .is_some() {
+        let before = memory.table[first as usize - 1][second as usize - 1];
+        if before.is_some() {
             return Err(Fault::at(Stop::GivenBefore, line, SECOND_PLACE));
         }
         if listed.weight > HIGHEST_WEIGHT {
