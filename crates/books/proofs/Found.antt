@@ -1,26 +1,24 @@
 -- What the tests of a line tell where it was taken, and that a pair and an opening are found where they were given. Assumes nothing.
-use mathlib.Core.Path.{_≡_, refl, sym, ap, subst, _∙_}
+use mathlib.Core.Path.{_≡_, sym, ap, subst, _∙_}
 use mathlib.Core.Bool.{not}
-use mathlib.Core.List.{List, [], _∷_, _++_, append-nil, append-assoc}
+use mathlib.Core.List.{List, [], _∷_, _++_}
 use mathlib.Core.Logic.{⊎-elim, inl, inr, _⊎_}
-use Prim.Native.Nat.{ℕ, _+_, _≤_, _<_, min}
+use Prim.Native.Nat.{ℕ, _+_, _≤_, _<_}
 use native.Mathlib.Omega.{arith}
 use lib.Dec.{leb, ltb}
 use lib.ListN.{length}
-use Rattle.std.specs.Joined.{joined}
-use Rattle.std.proofs.shelf.Lists.{length-push}
 use Rattle.std.proofs.shelf.Tests.{cases-eq, leb-false, eqb-true, not-false}
 use Rattle.std.specs.declared.option.Option.the-variants.{Some}
 use Rattle.stops.specs.declared.Stop.the-variants.{OutOfSequence, OutOfRange, GivenBefore, NoSuchMovement, Full}
-use Rattle.frames.specs.Frames.{Content, movement, pair, opening, orderA, orderB, closing, kindOf}
+use Rattle.frames.specs.Frames.{Content, movement, pair, opening}
 use Rattle.books.specs.declared.memory.Listed.{Listed}
 use Rattle.stops.specs.Stops.{fault}
 use Rattle.books.specs.Held.{Entries, Drafted, listed, opened}
 use Rattle.books.specs.Adding.{given, listedOf}
 use Rattle.books.specs.Taking.{passed, stopIf, within, fieldsCheck}
-use Rattle.books.specs.Says.{Among, numberIn, movementIn, runsAIn, runsBIn, countUp, Gives}
-use Rattle.books.proofs.Saying.{among-last, among-more, among-split, joined-push, countUp-push, goes-on, second-on, third-on, within-bounds, none-there, given-movements, given-a, given-b, list-more, pairs-kept, no-other-pairs-kept, openings-kept, no-other-openings-kept}
-use Rattle.books.proofs.Tables.{Shaped, pair-here, pair-other, pair-shaped, opening-here, opening-other, opening-shaped}
+use Rattle.books.specs.Says.{Among, Gives}
+use Rattle.books.proofs.Saying.{among-last, among-more, among-split, goes-on, second-on, third-on, within-bounds, none-there}
+use Rattle.books.proofs.Tables.{Shaped, pair-here, pair-other, opening-here, opening-other}
 
 -- the entries after the lines cs, with what the next line's tests rest on
 pub record Sofar (cs : List Content) (e : Entries) : Type 0 where

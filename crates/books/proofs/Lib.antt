@@ -6,3 +6,4 @@ pub mod Saying
 pub mod Found
 pub mod LineByLine
 pub mod Whole
+pub mod Answered

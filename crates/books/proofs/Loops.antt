@@ -1,19 +1,19 @@
 -- What one turn of the loops over steps and runs keeps. Assumes nothing.
 use mathlib.Core.Path.{_≡_, refl, sym, ap, _∙_}
-use mathlib.Core.Bool.{true, false, not}
-use mathlib.Core.List.{List, [], _∷_, _++_, map, append-nil, append-assoc}
+use mathlib.Core.Bool.{true, false}
+use mathlib.Core.List.{List, [], _∷_, _++_, append-nil, append-assoc}
 use Prim.Native.Nat.{ℕ, _+_, _-_, _*_, _≤_, _<_}
 use native.Mathlib.Omega.{arith}
 use lib.ListN.{length, take, drop, getD, set}
 use Rattle.std.proofs.shelf.Lists.{take-more, take-more-set, at-drop-more, at-drop-all, length-set, length-drop}
 use Rattle.std.proofs.shelf.Ways.{tells}
-use Rattle.std.specs.declared.result.Result.the-variants.{Ok, Err}
+use Rattle.std.specs.declared.result.Result.the-variants.{Err}
 use Rattle.stops.specs.declared.Stop.the-variants.{OutOfRange, GivenBefore, NoSuchMovement, Full}
 use Rattle.books.specs.declared.memory.Step.{Step}
 use Rattle.books.specs.declared.memory.Run.{Run}
 use Rattle.stops.specs.Stops.{fault}
 use Rattle.books.specs.Adding.{stepOf, stepsOf, runOf, runsOf}
-use Rattle.books.specs.Taking.{within, uses, stepsCheck, runsCheck, passed}
+use Rattle.books.specs.Taking.{within, uses, stepsCheck, runsCheck}
 
 abbrev noStep : Step
 noStep = record { section = 0; set = 0; release = 0 }

@@ -1,28 +1,26 @@
 -- A line that is taken adds what it says, and nothing else. Assumes nothing.
-use mathlib.Core.Path.{_≡_, refl, sym, ap, subst, _∙_}
-use mathlib.Core.Bool.{Bool, true, false, not, _&&_}
-use mathlib.Core.List.{List, [], _∷_, _++_, append-nil, append-assoc}
+use mathlib.Core.Path.{_≡_, refl, sym, ap, _∙_}
+use mathlib.Core.Bool.{Bool, true, false, not}
+use mathlib.Core.List.{List, [], _∷_, _++_, append-nil}
 use mathlib.Core.Logic.{_⊎_, inl, inr, ⊎-elim}
-use Prim.Native.Nat.{ℕ, _+_, _-_, _≤_, _<_, min}
+use Prim.Native.Nat.{ℕ, _+_, _-_, _≤_}
 use native.Mathlib.Omega.{arith}
-use lib.Dec.{eqb, leb}
-use lib.ListN.{length, getD, set}
+use lib.Dec.{leb}
+use lib.ListN.{length, getD}
 use Rattle.std.specs.Joined.{joined}
 use Rattle.std.specs.Options.{isSome}
-use Rattle.std.proofs.shelf.Lists.{joined-more, length-set, length-push, getD-set-same, getD-set-other}
-use Rattle.std.proofs.shelf.Tests.{cases-eq, not-false, leb-false, and-parts, leb-true, eqb-true}
-use Rattle.std.proofs.shelf.Ways.{tells}
+use Rattle.std.proofs.shelf.Lists.{joined-more}
+use Rattle.std.proofs.shelf.Tests.{not-false, and-parts, leb-true}
 use Rattle.std.specs.declared.option.Option.{Option}
 use Rattle.std.specs.declared.option.Option.the-variants.{Some, None}
-use Rattle.std.specs.declared.result.Result.the-variants.{Ok, Err}
 use Rattle.stops.specs.declared.Fault.{Fault}
 use Rattle.frames.specs.Kinds.{pairKind, openingKind}
 use Rattle.frames.specs.Frames.{Content, movement, pair, opening, orderA, orderB, closing, kindOf}
 use Rattle.books.specs.declared.memory.Listed.{Listed}
-use Rattle.books.specs.Held.{Entries, Drafted, listed, opened}
+use Rattle.books.specs.Held.{Entries, listed, opened}
 use Rattle.books.specs.Adding.{given, listedOf}
-use Rattle.books.specs.Taking.{Check, passed, stopIf, within, fieldsCheck, kindCheck}
-use Rattle.books.specs.Says.{Among, numberIn, movementIn, runsAIn, runsBIn, closingIn, countUp, Gives}
+use Rattle.books.specs.Taking.{Check, passed, stopIf, within}
+use Rattle.books.specs.Says.{Among, movementIn, runsAIn, runsBIn, countUp, Gives}
 
 pub among-last : (x : Content) (cs : List Content) → Among x (cs ++ x ∷ [])
 among-last x [] = inl refl

@@ -10,7 +10,7 @@ use Rattle.books.specs.declared.memory.Step.{Step}
 use Rattle.books.specs.declared.memory.Listed.{Listed}
 use Rattle.books.specs.declared.memory.Run.{Run}
 use Rattle.books.specs.declared.memory.Closing.{Closing}
-use Rattle.books.specs.Held.{Movement, Entries, Drafted}
+use Rattle.books.specs.Held.{Entries, Drafted}
 
 -- five bytes make a step: its section, two bytes of set, two of release
 abbrev pub stepOf : ℕ → ℕ → ℕ → ℕ → ℕ → Step

@@ -10,7 +10,6 @@ use Rattle.std.specs.declared.option.Option.{Option}
 use Rattle.std.specs.declared.option.Option.the-variants.{Some, None}
 use Rattle.std.specs.declared.result.Result.{Result}
 use Rattle.std.specs.declared.result.Result.the-variants.{Ok, Err}
-use Rattle.stops.specs.declared.Stop.{Stop}
 use Rattle.stops.specs.declared.Stop.the-variants.{WrongLength, OutOfSequence, OutOfRange, GivenBefore, NoSuchMovement, Full, Unfinished}
 use Rattle.stops.specs.declared.Fault.{Fault}
 use Rattle.frames.specs.Kinds.{closingKind, stepsLength, orderLength}

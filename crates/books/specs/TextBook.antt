@@ -11,7 +11,6 @@ use Rattle.stops.specs.declared.Stop.the-variants.{TooLong}
 use Rattle.lines.specs.declared.fault.TextFault.{TextFault}
 use Rattle.lines.specs.Texts.{linesOf}
 use Rattle.lines.specs.Reading.{longestText, textFault}
-use Rattle.lines.specs.Hex.{lineBytes}
 use Rattle.frames.specs.declared.fault.FrameFault.{FrameFault}
 use Rattle.frames.specs.declared.fault.FrameFault.the-variants.{Text}
 use Rattle.frames.specs.declared.frame.Frame as Frames

@@ -1,6 +1,6 @@
 ghost use mathlib.Core.Path.{_≡_};
 ghost use Rattle.frames.specs.declared.fault.FrameFault.the-variants.{Text};
-ghost use Rattle.books.specs.declared.fault.BookFault.the-variants.{Frame as InFrame, Found as InBook};
+ghost use Rattle.books.specs.declared.fault.BookFault.the-variants.{Frame as InFrame};
 ghost use Rattle.books.specs.Faults.{layerOf, foundOf};
 use frames::fault::FrameFault;
 use frames::fault::FrameFaultDebug;

@@ -1,7 +1,6 @@
 -- The first line of a text, by how many characters it has. Assumes nothing.
-use mathlib.Core.Path.{_≡_, refl, sym, ap, _∙_}
+use mathlib.Core.Path.{_≡_, refl, ap, _∙_}
 use mathlib.Core.List.{List, [], _∷_}
-use mathlib.Core.Logic.{⊎-elim}
 use Prim.Native.Nat.{ℕ, _+_, _≤_, _<_, min, suc}
 use native.Mathlib.Omega.{arith}
 use lib.Dec.{eqb}

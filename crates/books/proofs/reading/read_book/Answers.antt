@@ -5,7 +5,7 @@ use Rattle.lines.specs.Texts.{linesOf}
 use Rattle.books.specs.Held.{draftOf}
 use Rattle.books.specs.TextBook.{through}
 use Rattle.books.proofs.Readings.{reads-on, reads-stop, text-stops, given-back}
-use Rattle.books.proofs.Whole.{closing-answers, long-answers, faithful}
+use Rattle.books.proofs.Answered.{closing-answers, long-answers, faithful}
 use Rattle.books.proofs.reading.read_book.Needs as need
 
 pub returns-in-Err : need.returns-in-Err

@@ -1,7 +1,5 @@
 use mathlib.Core.Path.{refl, sym, _∙_}
 use Prim.Native.Nat.{_-_}
-use lib.ListN.{set}
-use Rattle.std.specs.declared.option.Option.the-variants.{Some}
 use Rattle.std.specs.declared.result.Result.the-variants.{Ok}
 use Rattle.frames.specs.Frames.{opening}
 use Rattle.books.specs.Held.{draftOf}

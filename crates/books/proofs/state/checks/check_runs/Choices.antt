@@ -1,6 +1,6 @@
 use mathlib.Core.Path.{_≡_}
 use Prim.Native.Nat.{_+_, _≤_}
-use lib.ListN.{drop, length}
+use lib.ListN.{drop}
 use Rattle.books.specs.Taking.{runsCheck}
 use Rattle.books.proofs.state.checks.check_runs.Given as given
 
