@@ -1,14 +1,14 @@
 // Reads a book from standard input and prints its report.
+use reports::AnswerDisplay;
 use reports::report;
 use std::error::AnyError;
 use std::io::Read;
-use std::io::Write;
 
 fn run(rt: &LibcRuntime) -> Result<(), AnyError> {
     let mut text = Vec::new(rt.alloc());
     rt.stdin().read_to_end(&mut text)?;
-    let answer = report(rt.alloc(), text.as_slice())?;
-    rt.stdout().write_all(answer.as_bytes())?;
+    let answer = report(text.as_slice());
+    print!(rt, "{answer}")?;
     Ok(())
 }
 

@@ -9,7 +9,10 @@ use Rattle.stops.specs.Stops.{numberOf, layerName}
 use Rattle.books.specs.declared.fault.BookFault.{BookFault}
 use Rattle.books.specs.Faults.{layerOf, foundOf}
 use Rattle.books.specs.Held.{Closed}
-use Rattle.books.specs.TextBook.{Stopped, textBook}
+use Rattle.books.specs.TextBook as TextBook
+use Rattle.books.specs.TextBook.{textBook}
+use Rattle.reports.specs.declared.Answer.{Answer}
+use Rattle.reports.specs.declared.Answer.the-variants.{Taken, Stopped}
 
 -- the line of a stop: its number, the line, the place and the layer's name
 abbrev pub stopText : ℕ → ℕ → ℕ → List ℕ → List ℕ
@@ -24,11 +27,16 @@ stopLine f = stopText (numberOf (foundOf f .stop)) (foundOf f .line) (foundOf f 
 abbrev pub takenLine : ℕ → List ℕ
 takenLine n = codes "taken " ++ (decimal n ++ codes "\n")
 
--- what is printed of a reading
-abbrev pub printed : Result Closed Stopped → List ℕ
-printed (Ok b) = takenLine (b .lines)
-printed (Err s) = stopLine (s .fault)
+-- what is printed of an answer
+abbrev pub printed : Answer → List ℕ
+printed (Taken n) = takenLine n
+printed (Stopped f) = stopLine f
 
--- the report of a text
-abbrev pub reportOf : List ℕ → List ℕ
-reportOf text = printed (textBook text)
+-- what is answered to a reading
+abbrev pub answered : Result Closed TextBook.Stopped → Answer
+answered (Ok b) = Taken (b .lines)
+answered (Err s) = Stopped (s .fault)
+
+-- what is answered to a text
+abbrev pub answerOf : List ℕ → Answer
+answerOf text = answered (textBook text)

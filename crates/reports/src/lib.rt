@@ -1,50 +1,49 @@
-// The report: from the text of a book to the bytes to print.
+// The report: what is printed of the text of a book.
 ghost use mathlib.Core.Path.{_≡_};
-ghost use Rattle.std.specs.Of.String.{string-bytes};
-ghost use Rattle.std.specs.Vec.{made};
-ghost use Rattle.stops.specs.Stops.{layerName};
-ghost use Rattle.reports.specs.Report.{reportOf, stopText};
+ghost use Rattle.std.specs.declared.option.Option.the-variants.{Some};
+ghost use Rattle.reports.specs.Report.{answerOf, printed};
+use books::fault::BookFault;
 use books::memory::Memory;
 use books::reading::read_book;
-use std::alloc::AllocError;
-use std::alloc::Global;
-use stops::Layer;
+use std::fmt;
 use stops::LayerDisplay;
 
-// The line that a stopText reading prints.
-fn stop_line(
-    heap: Global,
-    number: u8,
-    line: usize,
-    place: usize,
-    layer: Layer,
-) -> Result<String, AllocError>
-    ensures { λ r. ⌜ made r (λ s. string-bytes s ≡ stopText number line place (layerName layer)) ⌝ }
-{
-    format!(heap, "stop {number} {line} {place} {layer}\n")
+// What the report answers: that the book was taken, with its count of lines, or the first fault.
+#[derive(Clone, Copy)]
+pub enum Answer {
+    Taken(usize),
+    Stopped(BookFault),
 }
 
-// What the report prints of a text: that the book was taken and its count of lines, or the first stop.
-pub fn report(heap: Global, text: &[u8]) -> Result<String, AllocError>
-    ensures { λ r. ⌜ made r (λ s. string-bytes s ≡ reportOf (now (text .entry))) ⌝ }
+pub impl fmt::Display for Answer as AnswerDisplay {
+    ghost shown = { λ a. Some (printed a) };
+
+    fn fmt<W: fmt::Write>(&self, f: &mut fmt::Formatter<W>) -> fmt::Result {
+        match *self {
+            Answer::Taken(lines) => write!(f, "taken {lines}\n"),
+            Answer::Stopped(fault) => {
+                let found = fault.found();
+                let number = found.stop.number();
+                let line = found.line;
+                let place = found.place;
+                let layer = fault.layer();
+                write!(f, "stop {number} {line} {place} {layer}\n")
+            }
+        }
+    }
+}
+
+// The report of a text.
+pub fn report(text: &[u8]) -> Answer
+    ensures { λ r. ⌜ r ≡ answerOf (now (text .entry)) ⌝ }
 {
     let mut memory = Memory::new();
     match read_book(text, &mut memory) {
-        Ok(book) => {
-            let lines = book.lines();
-            format!(heap, "taken {lines}\n")
-        }
+        Ok(book) => Answer::Taken(book.lines()),
         Err(refused) => {
             let (draft, fault) = refused;
             let _lines = draft.give_up();
-            let found = fault.found();
-            stop_line(
-                heap,
-                found.stop.number(),
-                found.line,
-                found.place,
-                fault.layer(),
-            )
+            Answer::Stopped(fault)
         }
     }
 }

@@ -2,6 +2,7 @@
 // A line `= NAME` begins a case, whose text is the lines below it, each with its line end; a line `- NAME` is the same,
 // but the text's last line end is left out.
 use lines::reader::Reader;
+use reports::AnswerDisplay;
 use reports::report;
 use std::error::AnyError;
 use std::io::Read;
@@ -12,8 +13,8 @@ fn answer(rt: &LibcRuntime, ended: bool, text: &mut Vec<u8>) -> Result<(), AnyEr
     if !ended {
         let _ = text.pop();
     }
-    let line = report(rt.alloc(), text.as_slice())?;
-    rt.stdout().write_all(line.as_bytes())?;
+    let line = report(text.as_slice());
+    print!(rt, "{line}")?;
     text.clear();
     Ok(())
 }
