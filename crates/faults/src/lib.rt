@@ -1,4 +1,6 @@
 // What a reading answers where it stops: a fault of one of its layers.
+#![tactic(auto)]
+
 ghost use Rattle.std.specs.Prelude.{◌≡◌};
 ghost use Rattle.frames.specs.declared.fault.FrameFault.TheVariants.{Text};
 ghost use Rattle.faults.specs.declared.BookFault.TheVariants.{Frame as InFrame};

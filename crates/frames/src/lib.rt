@@ -1,4 +1,6 @@
 // The frame layer: what the bytes of a line say.
+#![tactic(auto)]
+
 pub mod fault;
 pub mod fields;
 pub mod frame;

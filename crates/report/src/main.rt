@@ -1,4 +1,6 @@
 // Reads a book from standard input and prints its report.
+#![tactic(auto)]
+
 use reports::report;
 use std::io::Read;
 

@@ -1,4 +1,6 @@
 // The report: what is printed of the text of a book.
+#![tactic(auto)]
+
 ghost use Rattle.std.specs.Prelude.{◌≡◌, Some};
 ghost use Rattle.reports.specs.Report.{answer_of, printed};
 

@@ -1,4 +1,6 @@
 // Why a reading is refused, and where: the stops with their numbers, and the layers that find them.
+#![tactic(auto)]
+
 ghost use Rattle.std.specs.Prelude.{◌≡◌, Some};
 ghost use Rattle.stops.specs.Stops.{number_of, fault, layer_name};
 

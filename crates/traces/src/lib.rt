@@ -1,4 +1,6 @@
 // The laws of clash relations and of kinds of time, and what keeps them. Each function's contract is a theorem.
+#![tactic(auto)]
+
 ghost use Rattle.traces.specs.Kinds.{LaterIsLatest};
 ghost use Rattle.traces.specs.Clashes.{MutualTestIsLawful, EitherWayIsMutual, MeetingInWords, MeetingIsMutual, UnionIsLawful};
 

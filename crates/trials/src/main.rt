@@ -3,6 +3,8 @@
 // line `- NAME` is the same, but the text's last line end is left out. A line `? NAME` begins a case of questions: the
 // rules of the book below it are asked about all pairs, or, where a line `+` stands between two books, the union of both.
 // A line `# NAME` begins a case of times: the two times of each line below it are added and compared.
+#![tactic(auto)]
+
 mod questions;
 mod sums;
 
