@@ -15,11 +15,11 @@ pub returns : goal.returns
 returns c =
     let text = c.args.self.now.text.now in
     let at = c.args.self.now.at in
-    let n = c.line-len-n.result in
+    let n = c.line_len-n.result in
     let rest = drop at text in
     let same_rest : take (length text - at) rest ≡ rest = take_rest text at in
     let some : 0 < length rest = omega (arith, length-drop at text) in
-    let len : n ≡ length (front rest) = c.line-len-n.ensures.value ∙ ap (λ xs. length (front xs)) same_rest in
+    let len : n ≡ length (front rest) = c.line_len-n.ensures.value ∙ ap (λ xs. length (front xs)) same_rest in
     let len0 : n - 0 ≡ length (front rest) = omega arith in
     let long : length (take (length text - at) rest) ≡ length rest = ap length same_rest in
     let step : c.if-n-rest.step ≡ min (length rest) (length (front rest) + 1) =
