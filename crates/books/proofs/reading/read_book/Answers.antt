@@ -22,22 +22,22 @@ loop-line-init c = (λ i. through (Ok (c.begin-draft.ensures i)) (lines_of (c.ne
 pub loop-line-preserved : goal.loop-line-preserved
 loop-line-preserved c =
     let h = draft_of c.loop-line.draft c.loop-line.memory in
-    sym (reads_on h _ _ _ c.in-Some.ensures.line _ c.in-ok-draft.ensures.taken) ∙ c.loop-line.invariant
+    sym (reads_on h _ _ _ c.in-Some.ensures.line _ c.in_ok-draft.ensures.taken) ∙ c.loop-line.invariant
 
-pub returns-in-err-draft : goal.returns-in-err-draft
-returns-in-err-draft c =
+pub returns-in_err-draft : goal.returns-in_err-draft
+returns-in_err-draft c =
     let text = c.args.text.now in
     let h = draft_of c.loop-line.draft c.loop-line.memory in
-    let back = c.in-err-draft.ensures.taken in
+    let back = c.in_err-draft.ensures.taken in
     let stops = sym c.loop-line.invariant ∙ reads_stop h _ _ _ c.in-Some.ensures.line _ back.0 in
-    let p = err_from_is_err_and c.from-residual.result c.from-residual.ensures.1 in
-    let answer = given_back text _ _ _ _ _ back.1 back.2 (text_stops text _ c.in-default.ensures stops) in
-    rw (p.1, p.2) (record { answer = answer; faithful = faithful text (Err c.in-err-draft.field-0.0) c.take-line.new.memory answer })
+    let p = err_from_is_err_and c.from_residual.result c.from_residual.ensures.1 in
+    let answer = given_back text _ _ _ _ _ back.1 back.2 (text_stops text _ c.in_default.ensures stops) in
+    rw (p.1, p.2) (record { answer = answer; faithful = faithful text (Err c.in_err-draft.field-0.0) c.take_line.new.memory answer })
 
 pub returns : goal.returns
 returns c =
     let text = c.args.text.now in
     let h = draft_of c.loop-line.draft c.loop-line.memory in
-    let read = sym c.loop-line.invariant ∙ ap (λ xs. through (Ok h) (lines_of xs)) c.in-default-next-line.ensures.0 in
-    let answer = closing_answers text c.loop-line.draft c.loop-line.memory c.close.result c.in-default.ensures read c.close.ensures in
+    let read = sym c.loop-line.invariant ∙ ap (λ xs. through (Ok h) (lines_of xs)) c.in_default-next_line.ensures.0 in
+    let answer = closing_answers text c.loop-line.draft c.loop-line.memory c.close.result c.in_default.ensures read c.close.ensures in
     record { answer = answer; faithful = faithful text c.close.result c.loop-line.memory answer }

@@ -4,20 +4,20 @@ use Rattle.entries.specs.Checks.{runs_check}
 use Rattle.entries.proofs.Loops.{runs_full, runs_none, runs_on}
 use Rattle.entries.proofs.runs.check_runs.Goals as goal
 
-pub returns-then-len-ge-MOST-RUNS : goal.returns-then-len-ge-MOST-RUNS
-returns-then-len-ge-MOST-RUNS c =
-    record { value = ap Err c.at.ensures ∙ sym (runs_full _ _ _ _ _ _ c.loop-movement-test.true c.if-len-ge-MOST-RUNS.true) ∙ c.loop-movement.invariant.0; room = λ _. tt }
+pub returns-then-len-ge-MOST_RUNS : goal.returns-then-len-ge-MOST_RUNS
+returns-then-len-ge-MOST_RUNS c =
+    record { value = ap Err c.at.ensures ∙ sym (runs_full _ _ _ _ _ _ c.loop-movement-test.true c.if-len-ge-MOST_RUNS.true) ∙ c.loop-movement.invariant.0; room = λ _. tt }
 
-pub returns-then-not-is-within : goal.returns-then-not-is-within
-returns-then-not-is-within c =
+pub returns-then-not-is_within : goal.returns-then-not-is_within
+returns-then-not-is_within c =
     record {
-      value = ap Err c.at-then-not-is-within.ensures ∙ sym (runs_none _ _ _ _ _ _ c.loop-movement-test.true c.if-len-ge-MOST-RUNS.false (sym c.if-not-is-within.ensures)) ∙ c.loop-movement.invariant.0;
+      value = ap Err c.at-then-not-is_within.ensures ∙ sym (runs_none _ _ _ _ _ _ c.loop-movement-test.true c.if-len-ge-MOST_RUNS.false (sym c.if-not-is_within.ensures)) ∙ c.loop-movement.invariant.0;
       room = λ _. tt;
     }
 
 pub loop-movement-preserved : goal.loop-movement-preserved
 loop-movement-preserved c =
-    (sym (runs_on _ _ _ _ _ _ c.loop-movement-test.true c.if-len-ge-MOST-RUNS.false (sym c.if-not-is-within.ensures)) ∙ c.loop-movement.invariant.0, λ _. omega arith, omega arith, omega arith, omega arith)
+    (sym (runs_on _ _ _ _ _ _ c.loop-movement-test.true c.if-len-ge-MOST_RUNS.false (sym c.if-not-is_within.ensures)) ∙ c.loop-movement.invariant.0, λ _. omega arith, omega arith, omega arith, omega arith)
 
 pub returns : goal.returns
 returns c =

@@ -7,13 +7,13 @@ use Rattle.entries.proofs.steps.check_steps.Goals as goal
 pub returns-then-step : goal.returns-then-step
 returns-then-step c = ap Err c.at.ensures ∙ sym (steps_order _ _ _ _ c.loop-i-test.true c.if-step.true) ∙ c.loop-i.invariant
 
-pub returns-then-uses-section : goal.returns-then-uses-section
-returns-then-uses-section c =
-    ap Err c.at-then-uses-section.ensures ∙ sym (steps_again _ _ _ _ c.loop-i-test.true c.if-step.false (sym c.if-uses-section.ensures)) ∙ c.loop-i.invariant
+pub returns-then-uses_section : goal.returns-then-uses_section
+returns-then-uses_section c =
+    ap Err c.at-then-uses_section.ensures ∙ sym (steps_again _ _ _ _ c.loop-i-test.true c.if-step.false (sym c.if-uses_section.ensures)) ∙ c.loop-i.invariant
 
 pub loop-i-preserved : goal.loop-i-preserved
 loop-i-preserved c =
-    sym (steps_on _ _ _ _ c.loop-i-test.true c.if-step.false (sym c.if-uses-section.ensures) (c.args.place + 5 * (c.loop-i.i + 1)) (omega arith)) ∙ c.loop-i.invariant
+    sym (steps_on _ _ _ _ c.loop-i-test.true c.if-step.false (sym c.if-uses_section.ensures) (c.args.place + 5 * (c.loop-i.i + 1)) (omega arith)) ∙ c.loop-i.invariant
 
 pub returns : goal.returns
 returns c = sym (at_drop_all (steps_check _ _ _) _ _ c.loop-i-test.false) ∙ c.loop-i.invariant

@@ -10,7 +10,7 @@ loop-step-preserved c =
     let x : Step = get_or c.args.second.now c.loop-step.step-index d in
     let inside : x.section < 256 = search rules in
     let put : c.max-gap.result ≡ max c.loop-step.gap (released_on c.args.first.now x.section - x.set) =
-    c.max-gap.ensures ∙ ap (λ (k : ℕ). max c.loop-step.gap k) (c.saturating-sub.ensures ∙ ap (λ (k : ℕ). k - x.set) (c.latest-releases-released.ensures x.section inside)) in
+    c.max-gap.ensures ∙ ap (λ (k : ℕ). max c.loop-step.gap k) (c.saturating_sub.ensures ∙ ap (λ (k : ℕ). k - x.set) (c.latest_releases-released.ensures x.section inside)) in
     rw put (gap_step c.args.first.now c.args.second.now c.loop-step.step-index d c.loop-step-test.true c.loop-step.gap ∙ c.loop-step.invariant)
 
 pub returns : goal.returns

@@ -7,13 +7,13 @@ pub returns-then-marked-step : goal.returns-then-marked-step
 returns-then-marked-step c =
     let d : Step = record { section = 0; set = 0; release = 0 } in
     let inside : (get_or c.args.second.now c.loop-step.step-index d).section < 256 = search rules in
-    sym (meets_here c.args.first.now c.args.second.now c.loop-step.step-index d c.loop-step-test.true (sym (c.marked-sections-marked.ensures _ inside) ∙ c.if-marked-step.true)) ∙ c.loop-step.invariant
+    sym (meets_here c.args.first.now c.args.second.now c.loop-step.step-index d c.loop-step-test.true (sym (c.marked_sections-marked.ensures _ inside) ∙ c.if-marked-step.true)) ∙ c.loop-step.invariant
 
 pub loop-step-preserved : goal.loop-step-preserved
 loop-step-preserved c =
     let d : Step = record { section = 0; set = 0; release = 0 } in
     let inside : (get_or c.args.second.now c.loop-step.step-index d).section < 256 = search rules in
-    sym (meets_later c.args.first.now c.args.second.now c.loop-step.step-index d c.loop-step-test.true (sym (c.marked-sections-marked.ensures _ inside) ∙ c.if-marked-step.false)) ∙ c.loop-step.invariant
+    sym (meets_later c.args.first.now c.args.second.now c.loop-step.step-index d c.loop-step-test.true (sym (c.marked_sections-marked.ensures _ inside) ∙ c.if-marked-step.false)) ∙ c.loop-step.invariant
 
 pub returns : goal.returns
 returns c = sym (meets_none c.args.first.now c.args.second.now c.loop-step.step-index c.loop-step-test.false) ∙ c.loop-step.invariant

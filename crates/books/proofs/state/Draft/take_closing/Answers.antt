@@ -16,5 +16,5 @@ returns c =
     let d = c.args.self in
     let m = c.args.memory.now in
     let line = closing c.args.line.movement c.args.line.window in
-    accepted (draft_of d m) line d.movements (count_movements d m) _ (sym c.in-default.ensures)
-    ∙ (λ i. Ok (record { lines = sym c.next-line.ensures i; last = 6; entries = (draft_of d m).entries; closing = Some c.args.line }))
+    accepted (draft_of d m) line d.movements (count_movements d m) _ (sym c.in_default.ensures)
+    ∙ (λ i. Ok (record { lines = sym c.next_line.ensures i; last = 6; entries = (draft_of d m).entries; closing = Some c.args.line }))

@@ -17,5 +17,5 @@ returns c =
     let d = c.args.self in
     let m = c.args.memory.now in
     let line = opening c.args.movement c.args.seconds in
-    accepted (draft_of d m) line d.movements (count_movements d m) _ (sym c.in-default.ensures)
-    ∙ (λ i. Ok (record { lines = sym c.next-line.ensures i; last = 3; entries = given (draft_of d m).entries line; closing = d.closing }))
+    accepted (draft_of d m) line d.movements (count_movements d m) _ (sym c.in_default.ensures)
+    ∙ (λ i. Ok (record { lines = sym c.next_line.ensures i; last = 3; entries = given (draft_of d m).entries line; closing = d.closing }))

@@ -10,7 +10,7 @@ returns-in-Err c =
     let d = c.args.self in
     let m = c.args.memory.now in
     let line = order_a c.args.place c.args.runs.now in
-    let tested = runs_alike d.movements c.args.place c.args.runs.now (sym c.next-line-line.ensures) (count_a d m) in
+    let tested = runs_alike d.movements c.args.place c.args.runs.now (sym c.next_line-line.ensures) (count_a d m) in
     (refused (draft_of d m) line d.movements (count_movements d m) _ (tested ∙ sym c.in-Err.ensures.value), refl, refl)
 
 pub returns : goal.returns
@@ -18,12 +18,12 @@ returns c =
     let d = c.args.self in
     let m = c.args.memory.now in
     let line = order_a c.args.place c.args.runs.now in
-    let tested = runs_alike d.movements c.args.place c.args.runs.now (sym c.next-line-line.ensures) (count_a d m) in
+    let tested = runs_alike d.movements c.args.place c.args.runs.now (sym c.next_line-line.ensures) (count_a d m) in
     let e = (draft_of d m).entries in
-    accepted (draft_of d m) line d.movements (count_movements d m) _ (tested ∙ sym c.in-default.ensures.value)
+    accepted (draft_of d m) line d.movements (count_movements d m) _ (tested ∙ sym c.in_default.ensures.value)
     ∙ (λ i. Ok (record {
-      lines = sym c.next-line-line.ensures i;
+      lines = sym c.next_line-line.ensures i;
       last = 4;
-      entries = record { movements = e.movements; table = e.table; openings = e.openings; order_a = sym c.write-runs.ensures i; order_b = e.order_b };
+      entries = record { movements = e.movements; table = e.table; openings = e.openings; order_a = sym c.write_runs.ensures i; order_b = e.order_b };
       closing = d.closing;
     }))
