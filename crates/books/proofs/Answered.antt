@@ -1,5 +1,5 @@
 -- The book of a text holds exactly what its lines say. Assumes nothing.
-use Rattle.std.proofs.Common.{◌≡◌, ℕ, ◌+◌, ◌-◌, ◌<◌, ◌≤◌, min, Bool, true, false, cond, not, eqb, leb, ◌⊎◌, List, [], ◌∷◌, length, take, Some, None, Ok, Err, Option, Result, sym, refl, ap, ◌∙◌, subst, inl, inr, ⊎_elim, arith}
+use Rattle.std.proofs.Common.{◌≡◌, ℕ, ◌+◌, ◌<◌, ◌≤◌, min, Bool, true, false, cond, eqb, leb, ◌⊎◌, List, [], ◌∷◌, length, take, Some, None, Ok, Err, Option, Result, sym, refl, ap, ◌∙◌, subst, inl, inr, ⊎_elim, arith}
 use Rattle.std.specs.Option.{option_to_list}
 use Rattle.std.proofs.lemmas.List.{length-take, take_all}
 use Rattle.std.proofs.lemmas.Bool.{cond-false, leb-true, lt-leb, cases_lt}
@@ -9,14 +9,13 @@ use Rattle.lines.specs.Reading.{longest_text, text_fault}
 use Rattle.lines.proofs.Cuts.{lines_few}
 use Rattle.lines.specs.declared.fault.TextFault.{TextFault}
 use Rattle.frames.specs.declared.fault.FrameFault.TheVariants.{Text}
-use Rattle.frames.specs.Frames.{Content, closing}
+use Rattle.frames.specs.Frames.{Content}
 use Rattle.faults.specs.declared.BookFault.{BookFault}
 use Rattle.faults.specs.declared.BookFault.TheVariants.{Frame}
 use Rattle.entries.specs.declared.memory.Closing.{Closing}
 use Rattle.entries.specs.declared.memory.Memory.{Memory}
 use Rattle.books.specs.declared.state.Draft.{Draft}
 use Rattle.books.specs.declared.state.Book.{Book}
-use Rattle.stops.specs.Stops.{fault}
 use Rattle.books.specs.Held.{Drafted, Closed, empty, draft_of, book_of}
 use Rattle.books.specs.Taking.{closed, with_closing, Shut}
 use Rattle.books.specs.TextBook.{Stopped, or_stopped, through, shut, text_book, Answered}

@@ -1,5 +1,5 @@
 -- What a book with its memory holds of one movement, and of a pair. Assumes nothing.
-use Rattle.std.proofs.Common.{◌≡◌, ℕ, ◌-◌, ◌<◌, ◌≤◌, min, true, false, cond, ◌&&◌, ◌⊎◌, List, [], map, length, get_or, take, None, sym, refl, ap, ◌∙◌, ⊎_elim, arith}
+use Rattle.std.proofs.Common.{◌≡◌, ℕ, ◌-◌, ◌≤◌, min, true, false, ◌&&◌, ◌⊎◌, List, [], length, get_or, take, None, sym, ap, ◌∙◌, ⊎_elim, arith}
 use Rattle.std.proofs.lemmas.List.{length-map, length-take-le, get_or-map, get_or-take, take_all}
 use Rattle.std.proofs.lemmas.Bool.{cases_lt, cond-true, cond-false, not_from_true, and_from, and_left, and_right}
 use Rattle.traces.specs.Clashes.{within}

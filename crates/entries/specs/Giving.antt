@@ -1,5 +1,5 @@
 -- What a line gives: its steps, its runs, and the entries with the line added. Assumes nothing.
-use Rattle.std.specs.Prelude.{ℕ, ◌-◌, List, [], ◌∷◌, ◌++◌, map, set, Some, Option, slice_index_or, slice_set}
+use Rattle.std.specs.Prelude.{ℕ, ◌-◌, List, [], ◌∷◌, ◌++◌, map, Some, Option, slice_index_or, slice_set}
 use Rattle.frames.specs.Frames.{Content, movement, pair, opening, order_a, order_b, closing, big2}
 use Rattle.entries.specs.declared.memory.Step.{Step}
 use Rattle.entries.specs.declared.memory.Listed.{Listed}

@@ -1,5 +1,5 @@
 -- In a book that was read from lines, two movements clash by sections exactly when they share a section. Assumes nothing.
-use Rattle.std.proofs.Common.{◌≡◌, ℕ, ◌+◌, ◌-◌, ◌%◌, ◌<◌, ◌≤◌, Bool, true, false, cond, ◌&&◌, ◌||◌, eqb, leb, ◌⊎◌, List, [], ◌∷◌, ◌++◌, length, get_or, drop, Ok, Err, Result, sym, refl, ap, ◌∙◌, inl, inr, ⊎_elim, arith}
+use Rattle.std.proofs.Common.{◌≡◌, ℕ, ◌+◌, ◌-◌, ◌%◌, ◌<◌, ◌≤◌, Bool, true, false, cond, ◌&&◌, ◌||◌, eqb, leb, ◌⊎◌, List, [], ◌∷◌, length, get_or, drop, Ok, Err, Result, sym, refl, ap, ◌∙◌, inl, inr, ⊎_elim, arith}
 use Rattle.std.specs.List.{AllByRecursion as All, flat_map}
 use Rattle.std.proofs.lemmas.Bool.{eqb-true, eq-eqb, and_parts, leb-true, cond-true}
 use Rattle.std.proofs.ByRecursion.{All-get_or, All-append}
@@ -12,8 +12,6 @@ use Rattle.frames.specs.declared.fault.FrameFault.{FrameFault}
 use Rattle.frames.specs.Kinds.{movement_length}
 use Rattle.frames.specs.Frames.{Content, movement, pair, opening, order_a, order_b, closing, after_bytes, by_kind}
 use Rattle.entries.specs.declared.memory.Step.{Step}
-use Rattle.entries.specs.declared.memory.Memory.{Memory}
-use Rattle.books.specs.declared.state.Book.{Book}
 use Rattle.entries.specs.Entries.{Movement, movement_at}
 use Rattle.entries.specs.Giving.{steps_of}
 use Rattle.books.specs.Says.{movement_in, ReadAs}

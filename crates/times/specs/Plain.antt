@@ -1,6 +1,5 @@
 -- Plain time: 0 to 99,999,999 seconds. Assumes nothing.
-use Rattle.std.specs.Prelude.{◌≡◌, ℕ, ◌+◌, min, Bool, nat_le, refl}
-use Rattle.std.proofs.Common.{ap}
+use Rattle.std.specs.Prelude.{ℕ, ◌+◌, min, Bool, nat_le, refl}
 use Rattle.traces.specs.Kinds.{TimeLaws}
 use Rattle.traces.proofs.Plain.{before_itself, before_onward, before_compared, before_same, before_first, before_shifted, before_grows, cut_cut}
 use Rattle.times.specs.declared.plain.Plain.{Plain}

@@ -1,6 +1,5 @@
 -- Ranked time: seconds as plain time has them, then a weight of 0 to 9,999. Assumes nothing.
-use Rattle.std.specs.Prelude.{◌≡◌, ℕ, ◌+◌, min, Bool, cond, ◌&&◌, ◌||◌, ◌==◌, nat_le, nat_lt, refl}
-use Rattle.std.proofs.Common.{ap}
+use Rattle.std.specs.Prelude.{ℕ, ◌+◌, min, Bool, cond, ◌&&◌, ◌||◌, ◌==◌, nat_le, nat_lt, refl}
 use Rattle.traces.specs.Kinds.{TimeLaws}
 use Rattle.traces.proofs.Plain.{cut_cut}
 use Rattle.traces.proofs.Ranked.{ranks_itself, ranks_onward, ranks_compared, ranks_same, ranks_first, ranks_shifted, ranks_grows, weigh_settled}

@@ -1,7 +1,7 @@
 -- The later of two times. Assumes nothing.
-use Rattle.std.proofs.Common.{◌≡◌, Bool, true, false, ◌⊎◌, refl, inl, inr, ⊎_elim}
+use Rattle.std.proofs.Common.{refl, inl, inr, ⊎_elim}
 use Rattle.std.proofs.lemmas.Bool.{cases_Bool, both_ways}
-use Rattle.traces.specs.Kinds.{later_of, Latest, LaterIsLatest}
+use Rattle.traces.specs.Kinds.{later_of, LaterIsLatest}
 
 pub later_is_latest : {T : Type 0} → LaterIsLatest T
 unfolding later_of

@@ -1,5 +1,5 @@
 -- Ways to make a lawful clash relation. Assumes nothing.
-use Rattle.std.proofs.Common.{ℕ, max, Bool, ◌||◌, arith}
+use Rattle.std.proofs.Common.{arith}
 use Rattle.std.proofs.lemmas.Bool.{cases_lt}
 use Rattle.std.proofs.lemmas.Bool.Decides.{nat_tests}
 use Rattle.traces.specs.Clashes.{MutualTestIsLawful, EitherWayIsMutual, UnionIsLawful}

@@ -1,4 +1,4 @@
-use Rattle.std.proofs.Common.{◌≡◌, ◌<◌, true, length, get_or, set, sym, refl, ap, ◌∙◌, arith, rules}
+use Rattle.std.proofs.Common.{◌<◌, true, length, get_or, sym, refl, ◌∙◌, rules}
 use Rattle.std.proofs.lemmas.List.{length-set}
 use Rattle.entries.specs.declared.memory.Step.{Step}
 use Rattle.headways.proofs.Passes.{mark_none, mark_step, mark_all}

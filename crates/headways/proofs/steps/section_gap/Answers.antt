@@ -1,4 +1,4 @@
-use Rattle.std.proofs.Common.{◌≡◌, ℕ, ◌-◌, ◌<◌, max, get_or, sym, refl, ap, ◌∙◌, arith, rules}
+use Rattle.std.proofs.Common.{◌≡◌, ℕ, ◌-◌, ◌<◌, max, get_or, sym, ap, ◌∙◌, rules}
 use Rattle.entries.specs.declared.memory.Step.{Step}
 use Rattle.headways.specs.Sections.{released_on}
 use Rattle.headways.proofs.Passes.{gap_step, gap_all}

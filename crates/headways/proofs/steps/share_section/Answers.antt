@@ -1,4 +1,4 @@
-use Rattle.std.proofs.Common.{◌≡◌, ◌<◌, true, false, get_or, sym, refl, ap, ◌∙◌, arith, rules}
+use Rattle.std.proofs.Common.{◌<◌, get_or, sym, ◌∙◌, rules}
 use Rattle.entries.specs.declared.memory.Step.{Step}
 use Rattle.headways.proofs.Passes.{meets_here, meets_later, meets_none}
 use Rattle.headways.proofs.steps.share_section.Goals as goal

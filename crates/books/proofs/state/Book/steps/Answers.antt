@@ -1,4 +1,4 @@
-use Rattle.std.proofs.Common.{◌≡◌, ℕ, ◌≤◌, [], length, sym, ap, ◌∙◌, arith}
+use Rattle.std.proofs.Common.{[], sym, ap, ◌∙◌, arith}
 use Rattle.entries.specs.declared.memory.Route.{Route}
 use Rattle.entries.specs.Entries.{Movement}
 use Rattle.entries.proofs.Numbered.{no_movement, movement_found}

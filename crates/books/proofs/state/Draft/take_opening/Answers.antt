@@ -1,4 +1,4 @@
-use Rattle.std.proofs.Common.{◌-◌, Ok, sym, refl, ◌∙◌}
+use Rattle.std.proofs.Common.{Ok, sym, refl, ◌∙◌}
 use Rattle.frames.specs.Frames.{opening}
 use Rattle.books.specs.Held.{draft_of}
 use Rattle.entries.specs.Giving.{given}
