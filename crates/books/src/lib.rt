@@ -3,3 +3,7 @@
 
 pub mod reading;
 pub mod state;
+
+// The fault of a reading and the memory of a book, which stand in crates of their own.
+pub use entries::memory;
+pub use faults as fault;

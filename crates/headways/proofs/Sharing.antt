@@ -1,6 +1,6 @@
 -- In a book that was read from lines, two movements clash by sections exactly when they share a section. Assumes nothing.
 use Rattle.std.proofs.Common.{◌≡◌, ℕ, ◌+◌, ◌-◌, ◌%◌, ◌<◌, ◌≤◌, Bool, true, false, cond, ◌&&◌, ◌||◌, eqb, leb, ◌⊎◌, List, [], ◌∷◌, length, get_or, drop, Ok, Err, Result, sym, refl, ap, ◌∙◌, inl, inr, ⊎_elim, arith}
-use Rattle.std.specs.List.{AllByRecursion as All, flat_map}
+use Rattle.std.specs.List.{AllByRecursion, flat_map}
 use Rattle.std.proofs.lemmas.Bool.{eqb-true, eq-eqb, and_parts, leb-true, cond-true}
 use Rattle.std.proofs.ByRecursion.{All-get_or, All-append}
 use Rattle.std.proofs.lemmas.List.{length-drop}
@@ -73,7 +73,7 @@ read_movement k (Ok []) m p l s e = absurd (no_test (cc))
 read_movement k (Ok (b ∷ bs)) m p l s e = by_kind_lem k b (b ∷ bs) m p l s e
 read_movement k (Err f) m p l s e = absurd (no_test (cc))
 
-has_steps : (k : ℕ) (r : Result (List ℕ) TextFault) (c : Content) → after_bytes k r ≡ Ok c → All HasStep (movement_in c)
+has_steps : (k : ℕ) (r : Result (List ℕ) TextFault) (c : Content) → after_bytes k r ≡ Ok c → AllByRecursion HasStep (movement_in c)
 has_steps k r (movement m p l s) e = (some_step s (read_movement k r m p l s e), tt)
 has_steps k r (pair a b g w) e = tt
 has_steps k r (opening m s) e = tt
@@ -81,7 +81,7 @@ has_steps k r (order_a l s) e = tt
 has_steps k r (order_b l s) e = tt
 has_steps k r (closing m w) e = tt
 
-all_have_steps : (k : ℕ) (ls : List (List ℕ)) (cs : List Content) → ReadAs k ls cs → All HasStep (flat_map movement_in cs)
+all_have_steps : (k : ℕ) (ls : List (List ℕ)) (cs : List Content) → ReadAs k ls cs → AllByRecursion HasStep (flat_map movement_in cs)
 all_have_steps k [] [] r = tt
 all_have_steps k [] (c ∷ cs) r = absurd r
 all_have_steps k (l ∷ ls) [] r = absurd r

@@ -1,6 +1,6 @@
 -- What a book means as a rule, with the memory that is lent to it. Assumes nothing.
 use Rattle.std.specs.Prelude.{◌≡◌, ℕ, ◌<◌, Bool, true, ◌&&◌, ◌⊎◌, ◌↔◌, List, length, is_some, Some, None, Option}
-use Rattle.std.specs.List.{AllByRecursion as All}
+use Rattle.std.specs.List.{AllByRecursion}
 use Rattle.traces.specs.Clashes.{Lawful, within, clash_by, either_way, meet}
 use Rattle.traces.proofs.Lawfuls.{mutual_test_is_lawful, either_way_is_mutual}
 use Rattle.traces.proofs.Meeting.{meeting_is_mutual}
@@ -78,7 +78,7 @@ TableIsOfItsLines = (text : List ℕ) (book : Book) (memory : Memory) (h : Holds
 
 -- every movement has a step
 abbrev pub HasSteps : Entries → Type 0
-HasSteps e = All (λ (m : Movement). 0 < length m.steps) e.movements
+HasSteps e = AllByRecursion (λ (m : Movement). 0 < length m.steps) e.movements
 
 -- in a book that was read from lines, every movement has a step
 abbrev pub ReadMovementsHaveSteps : Type 0

@@ -1,6 +1,6 @@
 -- The first line and the others, and that the lines put together are the text. Assumes nothing.
 use Rattle.std.proofs.Common.{◌≡◌, ℕ, ◌<◌, ◌≤◌, eqb, List, [], ◌∷◌, length, sym, refl, ap, ◌∙◌, arith}
-use Rattle.std.specs.List.{flat_map, AllByRecursion as All}
+use Rattle.std.specs.List.{flat_map, AllByRecursion}
 use Rattle.std.proofs.lemmas.Bool.{cond_both, eqb-true, eqb-false}
 use Rattle.std.proofs.lemmas.Bool.Decides.{nat_tests}
 use Rattle.lines.specs.Texts.{front, after, with_first, lines_of, ended, with_last_end, line_end, Lines}
@@ -36,7 +36,7 @@ lines_whole (x ∷ y ∷ xs) =
 
 -- no line of these holds a line end
 abbrev Apart : List (List ℕ) → Type 0
-Apart ls = All (λ l. All (λ c. c ≡ line_end → ⊥) l) ls
+Apart ls = AllByRecursion (λ l. AllByRecursion (λ c. c ≡ line_end → ⊥) l) ls
 
 apart_first : (x : ℕ) (ls : List (List ℕ)) → (x ≡ line_end → ⊥) → Apart ls → Apart (with_first x ls)
 apart_first x [] h a = ((h, tt), tt)

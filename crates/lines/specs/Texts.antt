@@ -1,6 +1,6 @@
 -- The lines of a text. Assumes nothing.
 use Rattle.std.specs.Prelude.{◌≡◌, ℕ, cond, List, [], ◌∷◌, ◌++◌, ◌==◌, ◌≢◌}
-use Rattle.std.specs.List.{flat_map, AllByRecursion as All}
+use Rattle.std.specs.List.{flat_map, AllByRecursion}
 
 -- the character that ends a line
 abbrev pub line_end : ℕ
@@ -40,4 +40,4 @@ with_last_end (c ∷ d ∷ cs) = c ∷ with_last_end (d ∷ cs)
 -- put together, are the text
 pub record Lines (text : List ℕ) (ls : List (List ℕ)) : Type 0 where
   pub whole : flat_map ended ls ≡ with_last_end text
-  pub apart : All (λ l. All (λ c. c ≢ line_end) l) ls
+  pub apart : AllByRecursion (λ l. AllByRecursion (λ c. c ≢ line_end) l) ls

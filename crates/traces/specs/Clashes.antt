@@ -11,9 +11,9 @@ pub record Lawful (n : ℕ) (clash : ℕ → ℕ → Bool) : Type 0 where
   pub self : (a : ℕ) → 1 ≤ a → a ≤ n → clash a a ≡ true
   pub both : (a b : ℕ) → clash a b ≡ clash b a
 
--- a is one of the movements 1 to n
+-- m is 1 to n
 abbrev pub within : ℕ → ℕ → Bool
-within n a = nat_le 1 a && nat_le a n
+within n m = nat_le 1 m && nat_le m n
 
 -- two of the movements 1 to n clash if they are one, or if a test says so
 abbrev pub clash_by : ℕ → (ℕ → ℕ → Bool) → ℕ → ℕ → Bool

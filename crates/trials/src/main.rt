@@ -1,85 +1,28 @@
-// Reads a table of cases from standard input and prints what is answered to each.
-// A line `= NAME` begins a case, whose text is the lines below it, each with its line end, and the report answers it; a
-// line `- NAME` is the same, but the text's last line end is left out. A line `? NAME` begins a case of questions: the
-// rules of the book below it are asked about all pairs, or, where a line `+` stands between two books, the union of both.
-// A line `# NAME` begins a case of times: the two times of each line below it are added and compared.
+// Reads a table of cases from standard input and prints what the report answers to each.
+// A line `= NAME` begins a case, whose text is the lines below it, each with its line end; a line `- NAME` is the same,
+// but the text's last line end is left out.
 #![tactic(auto)]
 
-mod questions;
-mod sums;
-
 use lines::reader::Reader;
-use questions::{ask_book, ask_both};
 use reports::report;
 use std::io::{Read, Write};
-use sums::add_times;
 
-// What is done with a case's text.
-#[derive(Clone, Copy)]
-enum Case {
-    Report,
-    ReportUnended,
-    Questions,
-    Times,
-}
-
-// Prints the report's answer to a text.
-fn print_report(rt: &HostRuntime, text: &[u8]) -> anyhow::Result<()> {
-    let line = report(text);
+// Prints the report's answer to a case's text, and empties the text for the next case.
+fn answer(rt: &HostRuntime, ended: bool, text: &mut Vec<u8>) -> anyhow::Result<()> {
+    if !ended {
+        let _ = text.pop();
+    }
+    let line = report(text.as_slice());
     print!(rt; "{line}")?;
-    Ok(())
-}
-
-// Asks the questions of a case: of one book, or of two, where the second begins at `second`.
-fn ask(rt: &HostRuntime, text: &[u8], second: Option<usize>) -> anyhow::Result<()> {
-    match second {
-        Some(at) if at <= text.len() => {
-            let (book, other) = text.split_at(at);
-            ask_both(rt, book, other)
-        }
-        _ => ask_book(rt, text),
-    }
-}
-
-// Answers a case, and empties the text for the next one.
-fn answer(
-    rt: &HostRuntime,
-    case: Case,
-    second: Option<usize>,
-    text: &mut Vec<u8>,
-) -> anyhow::Result<()> {
-    match case {
-        Case::Report => print_report(rt, text.as_slice())?,
-        Case::ReportUnended => {
-            let _ = text.pop();
-            print_report(rt, text.as_slice())?;
-        }
-        Case::Questions => ask(rt, text.as_slice(), second)?,
-        Case::Times => add_times(rt, text.as_slice())?,
-    }
     text.clear();
     Ok(())
 }
 
-// Prints a case's name; the answers to questions begin on a line of their own.
-fn head(rt: &HostRuntime, case: Case, name: &[u8]) -> anyhow::Result<()> {
+// Prints a case's name.
+fn head(rt: &HostRuntime, name: &[u8]) -> anyhow::Result<()> {
     rt.stdout().write_all(name)?;
-    match case {
-        Case::Questions | Case::Times => rt.stdout().write_all(b":\n")?,
-        Case::Report | Case::ReportUnended => rt.stdout().write_all(b": ")?,
-    }
+    rt.stdout().write_all(b": ")?;
     Ok(())
-}
-
-// The case that a line's mark begins.
-fn marked(mark: u8) -> Option<Case> {
-    match mark {
-        b'=' => Some(Case::Report),
-        b'-' => Some(Case::ReportUnended),
-        b'?' => Some(Case::Questions),
-        b'#' => Some(Case::Times),
-        _ => None,
-    }
 }
 
 fn run(rt: &HostRuntime) -> anyhow::Result<()> {
@@ -87,34 +30,25 @@ fn run(rt: &HostRuntime) -> anyhow::Result<()> {
     rt.stdin().read_to_end(&mut table)?;
     let mut reader = Reader::new(table.as_slice());
     let mut text = Vec::new(rt.alloc());
-    let mut case = None;
-    let mut second = None;
+    let mut begun = false;
+    let mut ended = true;
     while let Some(line) = reader.next_line() {
-        let mut next = None;
-        if let [mark, b' ', ..] = line.part {
-            next = marked(*mark);
-        }
-        if let Some(begun) = next {
-            if let Some(ended) = case {
-                answer(rt, ended, second, &mut text)?;
+        match line.part {
+            [mark, b' ', name @ ..] if *mark == b'=' || *mark == b'-' => {
+                if begun {
+                    answer(rt, ended, &mut text)?;
+                }
+                head(rt, name)?;
+                begun = true;
+                ended = *mark == b'=';
             }
-            head(rt, begun, &line.part[2..])?;
-            case = next;
-            second = None;
-            continue;
-        }
-        match (case, line.part) {
-            (Some(Case::Questions), [b'+']) => second = Some(text.len()),
-            (_, part) => {
+            part => {
                 text.extend_from_slice(part)?;
                 text.push(b'\n')?;
             }
         }
     }
-    match case {
-        Some(ended) => answer(rt, ended, second, &mut text),
-        None => Ok(()),
-    }
+    answer(rt, ended, &mut text)
 }
 
 fn main(rt: HostRuntime) -> anyhow::Result<()> {

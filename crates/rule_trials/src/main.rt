@@ -1,0 +1,101 @@
+// Reads a table of cases from standard input and prints what the rules of books and the kinds of time answer to each.
+// A line `? NAME` begins a case of questions: the rules of the book below it are asked about all pairs, or, where a line
+// `+` stands between two books, the union of both. A line `# NAME` begins a case of times: the two times of each line
+// below it are added and compared.
+#![tactic(auto)]
+
+mod questions;
+mod sums;
+
+use lines::reader::Reader;
+use questions::{ask_book, ask_both};
+use std::io::{Read, Write};
+use sums::add_times;
+
+// What is done with a case's text.
+#[derive(Clone, Copy)]
+enum Case {
+    Questions,
+    Times,
+}
+
+// Asks the questions of a case: of one book, or of two, where the second begins at `second`.
+fn ask(rt: &HostRuntime, text: &[u8], second: Option<usize>) -> anyhow::Result<()> {
+    match second {
+        Some(at) if at <= text.len() => {
+            let (book, other) = text.split_at(at);
+            ask_both(rt, book, other)
+        }
+        _ => ask_book(rt, text),
+    }
+}
+
+// Answers a case, and empties the text for the next one.
+fn answer(
+    rt: &HostRuntime,
+    case: Case,
+    second: Option<usize>,
+    text: &mut Vec<u8>,
+) -> anyhow::Result<()> {
+    match case {
+        Case::Questions => ask(rt, text.as_slice(), second)?,
+        Case::Times => add_times(rt, text.as_slice())?,
+    }
+    text.clear();
+    Ok(())
+}
+
+// Prints a case's name; the answers begin on a line of their own.
+fn head(rt: &HostRuntime, name: &[u8]) -> anyhow::Result<()> {
+    rt.stdout().write_all(name)?;
+    rt.stdout().write_all(b":\n")?;
+    Ok(())
+}
+
+// The case that a line's mark begins.
+fn marked(mark: u8) -> Option<Case> {
+    match mark {
+        b'?' => Some(Case::Questions),
+        b'#' => Some(Case::Times),
+        _ => None,
+    }
+}
+
+fn run(rt: &HostRuntime) -> anyhow::Result<()> {
+    let mut table = Vec::new(rt.alloc());
+    rt.stdin().read_to_end(&mut table)?;
+    let mut reader = Reader::new(table.as_slice());
+    let mut text = Vec::new(rt.alloc());
+    let mut case = None;
+    let mut second = None;
+    while let Some(line) = reader.next_line() {
+        let mut next = None;
+        if let [mark, b' ', ..] = line.part {
+            next = marked(*mark);
+        }
+        if let Some(begun) = next {
+            if let Some(ended) = case {
+                answer(rt, ended, second, &mut text)?;
+            }
+            head(rt, &line.part[2..])?;
+            case = Some(begun);
+            second = None;
+            continue;
+        }
+        match (case, line.part) {
+            (Some(Case::Questions), [b'+']) => second = Some(text.len()),
+            (_, part) => {
+                text.extend_from_slice(part)?;
+                text.push(b'\n')?;
+            }
+        }
+    }
+    match case {
+        Some(ended) => answer(rt, ended, second, &mut text),
+        None => Ok(()),
+    }
+}
+
+fn main(rt: HostRuntime) -> anyhow::Result<()> {
+    run(&rt)
+}
