@@ -4,7 +4,7 @@ ghost use Rattle.headways.specs.Rules.{count_of, held, HasSteps, shared_rule, se
 use crate::steps::{section_gap, share_section};
 use books::state::Book;
 use entries::memory::Memory;
-use entries::runs::is_within;
+use entries::movements::is_within;
 use rules::clash::Clash;
 use rules::headway::Headway;
 use std::marker::PhantomData;

@@ -3,7 +3,7 @@ ghost use Rattle.headways.specs.Rules.{count_of, held, table_rule, table_gap, ta
 
 use books::state::Book;
 use entries::memory::Memory;
-use entries::runs::is_within;
+use entries::movements::is_within;
 use rules::clash::Clash;
 use rules::headway::Headway;
 use std::marker::PhantomData;

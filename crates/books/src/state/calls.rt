@@ -6,7 +6,7 @@ ghost use Rattle.books.specs.Taking.{after_frame, Taken, Shut};
 
 use super::{Book, Draft};
 use entries::memory::{Closing, Listed, MOST_MOVEMENTS, Memory, Route, Step};
-use entries::runs::is_within;
+use entries::movements::is_within;
 use faults::BookFault;
 use frames::frame::Frame;
 use stops::{Fault, Stop};

@@ -1,15 +1,15 @@
-ghost use Rattle.std.specs.Prelude.{◌≡◌, ◌<◌, ◌≤◌, length, OnOk};
+ghost use Rattle.std.specs.Prelude.{◌≡◌, ◌+◌, ◌<◌, ◌≤◌, [], length, OnOk};
 ghost use Rattle.frames.specs.Frames.{content, pair, opening};
+ghost use Rattle.entries.specs.Checks.{uses, steps_check, runs_check};
 ghost use Rattle.books.specs.Held.{draft_of};
 ghost use Rattle.books.specs.Adding.{next_line};
 ghost use Rattle.books.specs.Taking.{kind_check, movement_check, closing_check, fields_check};
 
 use super::Draft;
-use entries::memory::{Closing, Listed, MOST_MOVEMENTS, Memory, Step};
+use entries::memory::{Closing, Listed, MOST_MOVEMENTS, MOST_RUNS, Memory, Step};
+use entries::movements::is_within;
 use entries::parts::{part_fits, part_place};
-use entries::runs::is_within;
-use entries::steps::check_steps;
-use frames::frame::{CLOSING, Frame, KIND_PLACE};
+use frames::frame::{CLOSING, Frame, KIND_PLACE, STEP_BYTES};
 use lines::reader::LONGEST_TEXT;
 use stops::{Fault, Stop};
 
@@ -30,6 +30,62 @@ const HIGHEST_WEIGHT: u8 = 9;
 
 // The longest window, in seconds.
 const LONGEST_WINDOW: u32 = 86_400;
+
+// One of the steps is over the section.
+fn uses_section(steps: &[Step], section: u8) -> bool
+    ensures { result ≡ uses steps.now section }
+{
+    for step in steps {
+        if step.section == section {
+            return true;
+        }
+    }
+    false
+}
+
+// Each step is set before it is released, and no section comes twice. The first step stands at `place` of the line.
+fn check_steps(line: usize, place: u8, steps: &[Step]) -> Result<(), Fault>
+    requires { length steps.now ≤ 24 }
+    ensures { result ≡ steps_check line place [] steps.now }
+{
+    for (i, step) in steps.iter().enumerate() {
+        let at = place as usize + STEP_BYTES * i;
+        if step.set >= step.release {
+            return Err(Fault::at(Stop::OutOfRange, line, at));
+        }
+        if uses_section(&steps[0..i], step.section) {
+            return Err(Fault::at(Stop::GivenBefore, line, at));
+        }
+    }
+    Ok(())
+}
+
+// There is room for each run behind those held, and its movement is one of the count. The first run stands at `place`.
+pub(super) fn check_runs(
+    line: usize,
+    count: usize,
+    held: usize,
+    place: u8,
+    runs: &[u8],
+) -> Result<(), Fault>
+    requires { held ≤ 512 }
+    ensures value { result ≡ runs_check line count held place runs.now }
+    ensures room { OnOk result (held + length runs.now ≤ 512) }
+{
+    let mut len = held;
+    let mut at = place as usize;
+    for movement in runs {
+        if len >= MOST_RUNS {
+            return Err(Fault::at(Stop::Full, line, at));
+        }
+        if !is_within(count, *movement) {
+            return Err(Fault::at(Stop::NoSuchMovement, line, at));
+        }
+        len += 1;
+        at += 1;
+    }
+    Ok(())
+}
 
 impl Draft {
     // The number of the line that comes next.

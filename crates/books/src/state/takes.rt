@@ -4,9 +4,9 @@ ghost use Rattle.books.specs.Held.{draft_of};
 ghost use Rattle.books.specs.Taking.{after_fields, Taken};
 
 use super::Draft;
+use super::checks::check_runs;
 use super::parts::{read_route, write_runs};
 use entries::memory::{Closing, Listed, Memory};
-use entries::runs::check_runs;
 use faults::BookFault;
 use frames::frame::{CLOSING, MOVEMENT, OPENING, ORDER_A, ORDER_B, PAIR};
 

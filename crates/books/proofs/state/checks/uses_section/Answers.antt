@@ -2,7 +2,7 @@ use Rattle.std.proofs.Common.{sym, ◌∙◌}
 use Rattle.std.proofs.lemmas.List.{at_drop_all}
 use Rattle.entries.specs.Checks.{uses}
 use Rattle.entries.proofs.Loops.{uses_here, uses_on}
-use Rattle.entries.proofs.steps.uses_section.Goals as goal
+use Rattle.books.proofs.state.checks.uses_section.Goals as goal
 
 pub returns-then-step-section : goal.returns-then-step-section
 returns-then-step-section c = sym (uses_here _ _ c.loop-step-test.true _ c.if-step-section.true) ∙ c.loop-step.invariant
