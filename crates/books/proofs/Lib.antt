@@ -1,3 +1,4 @@
+pub mod Loops
 pub mod Takes
 pub mod Readings
 pub mod Saying

@@ -1,4 +1,3 @@
-pub mod Loops
 pub mod Passing
 pub mod Numbered
 pub mod Tables

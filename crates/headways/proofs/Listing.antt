@@ -1,5 +1,5 @@
 -- The table of a book is the table of its lines. Assumes nothing.
-use Rattle.std.proofs.Common.{◌≡◌, ℕ, Bool, true, false, cond, ◌&&◌, eqb, leb, ◌⊎◌, List, length, is_some as option_is_some, Some, None, Option, sym, refl, ap, ◌∙◌, inl, inr, ⊎_elim, arith}
+use Rattle.std.proofs.Common.{◌≡◌, ℕ, Bool, true, false, cond, ◌&&◌, eqb, leb, ◌⊎◌, List, length, is_some, Some, None, Option, sym, refl, ap, ◌∙◌, inl, inr, ⊎_elim, arith}
 use Rattle.std.proofs.lemmas.Bool.{false≢true, and_parts, and_from, or_cases, or_left, or_right, cond-true, leb-true, eqb-true, eq-eqb}
 use Rattle.traces.specs.Clashes.{within, either_way}
 use Rattle.frames.specs.Frames.{pair}
@@ -21,9 +21,10 @@ some_or_none : {X : Type 0} (o : Option X) → (o ≡ None) ⊎ ((x : X) × (o �
 some_or_none None = inl refl
 some_or_none (Some x) = inr (x, refl)
 
-is_some : {X : Type 0} (o : Option X) → option_is_some o ≡ true → (x : X) × (o ≡ Some x)
-is_some None e = absurd (false≢true e)
-is_some (Some x) e = (x, refl)
+-- an option that is some has a value
+is_some_value : {X : Type 0} (o : Option X) → is_some o ≡ true → (x : X) × (o ≡ Some x)
+is_some_value None e = absurd (false≢true e)
+is_some_value (Some x) e = (x, refl)
 
 module _ (text : List ℕ) (book : Book) (memory : Memory) (h : HoldsLines text (book_of book memory)) where
   count : length (held book memory).movements ≡ count_of book
@@ -48,7 +49,7 @@ module _ (text : List ℕ) (book : Book) (memory : Memory) (h : HoldsLines text 
       ∙ h.says.gives.pairs a b g w i
 
   listing_lists : (a b : ℕ) → listing (held book memory) a b ≡ true → Lists h.contents a b
-  listing_lists a b e = let s = is_some (pair_at (held book memory) a b) e in found_lists a b s.0 s.1
+  listing_lists a b e = let s = is_some_value (pair_at (held book memory) a b) e in found_lists a b s.0 s.1
 
   clash_lists : (a b : ℕ) → table_rule book memory a b ≡ true → (a ≡ b) ⊎ (Lists h.contents a b ⊎ Lists h.contents b a)
   clash_lists a b e =
@@ -66,8 +67,8 @@ module _ (text : List ℕ) (book : Book) (memory : Memory) (h : HoldsLines text 
       (⊎_elim
       (λ same. or_left (eqb a b) _ (eq-eqb a b same))
       (λ listed. or_right (eqb a b) _ (⊎_elim
-      (λ there. or_left (listing (held book memory) a b) _ (ap option_is_some (lists_found a b there.0 there.1 first second there.2)))
-      (λ back. or_right (listing (held book memory) a b) _ (ap option_is_some (lists_found b a back.0 back.1 second first back.2)))
+      (λ there. or_left (listing (held book memory) a b) _ (ap is_some (lists_found a b there.0 there.1 first second there.2)))
+      (λ back. or_right (listing (held book memory) a b) _ (ap is_some (lists_found b a back.0 back.1 second first back.2)))
       listed))
       way))
 

@@ -52,11 +52,11 @@ fn head(rt: &HostRuntime, name: &[u8]) -> anyhow::Result<()> {
     Ok(())
 }
 
-// The case that a line's mark begins.
-fn marked(mark: u8) -> Option<Case> {
-    match mark {
-        b'?' => Some(Case::Questions),
-        b'#' => Some(Case::Times),
+// The case that a line begins, if it begins one, and its name.
+fn begun(line: &[u8]) -> Option<(Case, &[u8])> {
+    match line {
+        [b'?', b' ', name @ ..] => Some((Case::Questions, name)),
+        [b'#', b' ', name @ ..] => Some((Case::Times, name)),
         _ => None,
     }
 }
@@ -69,16 +69,12 @@ fn run(rt: &HostRuntime) -> anyhow::Result<()> {
     let mut case = None;
     let mut second = None;
     while let Some(line) = reader.next_line() {
-        let mut next = None;
-        if let [mark, b' ', ..] = line.part {
-            next = marked(*mark);
-        }
-        if let Some(begun) = next {
+        if let Some((next, name)) = begun(line.part) {
             if let Some(ended) = case {
                 answer(rt, ended, second, &mut text)?;
             }
-            head(rt, &line.part[2..])?;
-            case = Some(begun);
+            head(rt, name)?;
+            case = Some(next);
             second = None;
             continue;
         }

@@ -77,7 +77,7 @@ fn book_of(rt: &HostRuntime, text: &[u8], memory: &mut Memory) -> anyhow::Result
 }
 
 // Asks the rules of one book.
-pub fn ask_book(rt: &HostRuntime, text: &[u8]) -> anyhow::Result<()> {
+pub(crate) fn ask_book(rt: &HostRuntime, text: &[u8]) -> anyhow::Result<()> {
     let mut memory = Memory::new();
     if let Some(book) = book_of(rt, text, &mut memory)? {
         table(
@@ -103,7 +103,7 @@ pub fn ask_book(rt: &HostRuntime, text: &[u8]) -> anyhow::Result<()> {
 }
 
 // Asks the union of the rules of two books.
-pub fn ask_both(rt: &HostRuntime, first: &[u8], second: &[u8]) -> anyhow::Result<()> {
+pub(crate) fn ask_both(rt: &HostRuntime, first: &[u8], second: &[u8]) -> anyhow::Result<()> {
     let mut memory = Memory::new();
     let mut other = Memory::new();
     let Some(book) = book_of(rt, first, &mut memory)? else {

@@ -51,7 +51,7 @@ fn add_ranked(rt: &HostRuntime, line: &str) -> anyhow::Result<()> {
 }
 
 // Adds and compares two times for each line: `plain` with two numbers, or `ranked` with seconds and weight twice.
-pub fn add_times(rt: &HostRuntime, text: &[u8]) -> anyhow::Result<()> {
+pub(crate) fn add_times(rt: &HostRuntime, text: &[u8]) -> anyhow::Result<()> {
     for line in std::str::from_utf8(text)?.lines() {
         if let Some(rest) = line.strip_prefix("plain ") {
             add_plain(rt, rest)?;

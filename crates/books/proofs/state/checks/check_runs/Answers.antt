@@ -1,7 +1,7 @@
 use Rattle.std.proofs.Common.{Err, sym, ap, ◌∙◌, arith}
 use Rattle.std.proofs.lemmas.List.{at_drop_all}
 use Rattle.entries.specs.Checks.{runs_check}
-use Rattle.entries.proofs.Loops.{runs_full, runs_none, runs_on}
+use Rattle.books.proofs.Loops.{runs_full, runs_none, runs_on}
 use Rattle.books.proofs.state.checks.check_runs.Goals as goal
 
 pub returns-then-len-ge-MOST_RUNS : goal.returns-then-len-ge-MOST_RUNS

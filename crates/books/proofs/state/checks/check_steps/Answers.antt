@@ -1,7 +1,7 @@
 use Rattle.std.proofs.Common.{◌+◌, ◌*◌, Err, sym, ap, ◌∙◌, arith}
 use Rattle.std.proofs.lemmas.List.{at_drop_all}
 use Rattle.entries.specs.Checks.{steps_check}
-use Rattle.entries.proofs.Loops.{steps_order, steps_again, steps_on}
+use Rattle.books.proofs.Loops.{steps_order, steps_again, steps_on}
 use Rattle.books.proofs.state.checks.check_steps.Goals as goal
 
 pub returns-then-step : goal.returns-then-step

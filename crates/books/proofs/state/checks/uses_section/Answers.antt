@@ -1,7 +1,7 @@
 use Rattle.std.proofs.Common.{sym, ◌∙◌}
 use Rattle.std.proofs.lemmas.List.{at_drop_all}
 use Rattle.entries.specs.Checks.{uses}
-use Rattle.entries.proofs.Loops.{uses_here, uses_on}
+use Rattle.books.proofs.Loops.{uses_here, uses_on}
 use Rattle.books.proofs.state.checks.uses_section.Goals as goal
 
 pub returns-then-step-section : goal.returns-then-step-section

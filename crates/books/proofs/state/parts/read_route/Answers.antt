@@ -2,7 +2,7 @@ use Rattle.std.proofs.Common.{◌≡◌, ◌≤◌, length, get_or, arith, ltb-f
 use Rattle.std.proofs.lemmas.List.{take_rest}
 use Rattle.entries.specs.declared.memory.Step.{Step}
 use Rattle.entries.specs.Giving.{step_of}
-use Rattle.entries.proofs.Loops.{read_more, read_done}
+use Rattle.books.proofs.Loops.{read_more, read_done}
 use Rattle.books.proofs.state.parts.read_route.Goals as goal
 
 pub loop-rest-preserved : goal.loop-rest-preserved

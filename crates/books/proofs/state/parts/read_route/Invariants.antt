@@ -1,5 +1,5 @@
 use Rattle.std.proofs.Common.{length}
-use Rattle.entries.proofs.Loops.{Read}
+use Rattle.books.proofs.Loops.{Read}
 use Rattle.books.proofs.state.parts.read_route.Given as goal
 
 abbrev pub invariant-loop-rest : goal.invariant-loop-rest

@@ -1,5 +1,5 @@
 use Rattle.std.proofs.Common.{◌≡◌, ◌+◌, ◌<◌, length, take, ap, ◌∙◌, arith}
-use Rattle.entries.proofs.Loops.{write_more, write_done}
+use Rattle.books.proofs.Loops.{write_more, write_done}
 use Rattle.books.proofs.state.parts.write_runs.Goals as goal
 
 pub loop-movement-preserved : goal.loop-movement-preserved
