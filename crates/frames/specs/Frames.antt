@@ -9,7 +9,9 @@ use Rattle.frames.specs.declared.frame.Frame.{Frame}
 use Rattle.frames.specs.declared.frame.Frame.TheVariants.{Movement, Pair, Opening, OrderA, OrderB, Closing}
 use Rattle.frames.specs.declared.fault.FrameFault.{FrameFault}
 use Rattle.frames.specs.declared.fault.FrameFault.TheVariants.{Text, Found}
-use Rattle.frames.specs.Kinds.{movement_kind, pair_kind, opening_kind, order_a_kind, order_b_kind, closing_kind, movement_length, pair_length, opening_length, order_length, closing_length}
+use Rattle.frames.specs.declared.kind.Kind.{Kind}
+use Rattle.frames.specs.declared.kind.Kind.TheVariants as kinds
+use Rattle.frames.specs.Kinds.{kind_number, movement_kind, pair_kind, opening_kind, order_a_kind, order_b_kind, closing_kind, movement_length, pair_length, opening_length, order_length, closing_length}
 
 -- what a line says, with lists in the place of slices; steps and runs are still bytes, with the place where they begin
 pub data Content : Type 0 where
@@ -27,21 +29,25 @@ pub data Content : Type 0 where
 
 -- what a frame says
 abbrev pub content : Frame → Content
-content (Movement n p l s) = movement n p l s.now
+content (Movement n p s) = movement n p s.place s.bytes.now
 content (Pair a b g w) = pair a b g w
 content (Opening m s) = opening m s
-content (OrderA l r) = order_a l r.now
-content (OrderB l r) = order_b l r.now
+content (OrderA r) = order_a r.place r.bytes.now
+content (OrderB r) = order_b r.place r.bytes.now
 content (Closing m w) = closing m w
 
--- the number of the kind
+-- the kind of line that says so
+abbrev pub kind_in : Content → Kind
+kind_in (movement n p l s) = kinds.Movement
+kind_in (pair a b g w) = kinds.Pair
+kind_in (opening m s) = kinds.Opening
+kind_in (order_a l r) = kinds.OrderA
+kind_in (order_b l r) = kinds.OrderB
+kind_in (closing m w) = kinds.Closing
+
+-- the number of that kind
 abbrev pub kind_of : Content → ℕ
-kind_of (movement n p l s) = movement_kind
-kind_of (pair a b g w) = pair_kind
-kind_of (opening m s) = opening_kind
-kind_of (order_a l r) = order_a_kind
-kind_of (order_b l r) = order_b_kind
-kind_of (closing m w) = closing_kind
+kind_of c = kind_number (kind_in c)
 
 -- what was read, with what a frame says in the place of the frame
 abbrev pub meant : Result Frame FrameFault → Result Content FrameFault
@@ -63,6 +69,10 @@ byte bs i = slice_index bs i
 abbrev pub frame_fault : Stop → ℕ → ℕ → FrameFault
 frame_fault s l p = Found (fault s l p)
 
+-- a line of no kind; the place is that of its kind
+abbrev pub unknown_fault : ℕ → FrameFault
+unknown_fault line = frame_fault UnknownKind line 1
+
 -- the place of a wrong length is the last byte
 abbrev pub length_fault : ℕ → List ℕ → FrameFault
 length_fault line bs = frame_fault WrongLength line (length bs)
@@ -80,11 +90,11 @@ by_kind line bs k =
     (cond (k == order_a_kind) (sized line bs order_length (order_a 2 (drop 1 bs)))
     (cond (k == order_b_kind) (sized line bs order_length (order_b 2 (drop 1 bs)))
     (cond (k == closing_kind) (sized line bs closing_length (closing (byte bs 1) (big3 (byte bs 2) (byte bs 3) (byte bs 4))))
-    (Err (frame_fault UnknownKind line 1)))))))
+    (Err (unknown_fault line)))))))
 
 -- the first byte names the kind
 abbrev pub frame_of : ℕ → List ℕ → Result Content FrameFault
-frame_of line [] = Err (frame_fault UnknownKind line 1)
+frame_of line [] = Err (unknown_fault line)
 frame_of line (k ∷ bs) = by_kind line (k ∷ bs) k
 
 -- a fault of the text is passed on whole

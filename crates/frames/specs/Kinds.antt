@@ -1,5 +1,8 @@
 -- The kinds of line and the lengths that each has. Assumes nothing.
-use Rattle.std.specs.Prelude.{ℕ, ◌-◌, ◌%◌, Bool, ◌&&◌, ◌==◌, nat_le}
+use Rattle.std.specs.Prelude.{ℕ, ◌-◌, ◌%◌, Bool, cond, ◌&&◌, Ok, Err, Result, ◌==◌, nat_le}
+use Rattle.frames.specs.declared.kind.Kind.{Kind}
+use Rattle.frames.specs.declared.kind.Kind.TheVariants.{Movement, Pair, Opening, OrderA, OrderB, Closing}
+use Rattle.frames.specs.declared.kind.UnknownKind.{UnknownKind}
 
 -- the first byte of a line names its kind
 abbrev pub movement_kind : ℕ
@@ -19,6 +22,26 @@ order_b_kind = 5
 
 abbrev pub closing_kind : ℕ
 closing_kind = 6
+
+-- the number of a kind
+abbrev pub kind_number : Kind → ℕ
+kind_number Movement = movement_kind
+kind_number Pair = pair_kind
+kind_number Opening = opening_kind
+kind_number OrderA = order_a_kind
+kind_number OrderB = order_b_kind
+kind_number Closing = closing_kind
+
+-- the kind of a number, or the number where it is that of no kind
+abbrev pub kind_named : ℕ → Result Kind UnknownKind
+kind_named b =
+    cond (b == movement_kind) (Ok Movement)
+    (cond (b == pair_kind) (Ok Pair)
+    (cond (b == opening_kind) (Ok Opening)
+    (cond (b == order_a_kind) (Ok OrderA)
+    (cond (b == order_b_kind) (Ok OrderB)
+    (cond (b == closing_kind) (Ok Closing)
+    (Err (record { 0 = b })))))))
 
 -- five bytes for each of 1 to 24 steps
 abbrev pub steps_length : ℕ → Bool

@@ -1,23 +1,11 @@
 ghost use Rattle.std.specs.Prelude.{◌≡◌};
 ghost use Rattle.frames.specs.Kinds.{steps_length};
-ghost use Rattle.frames.specs.Frames.{content, kind_of, meant, frame_of, length_fault};
+ghost use Rattle.frames.specs.Frames.{content, kind_in, meant, frame_of, unknown_fault, length_fault};
 
 use crate::fault::FrameFault;
 use crate::fields::{three, two};
+use crate::kind::Kind;
 use stops::{Fault, Stop};
-
-// The first byte of a line names its kind.
-pub const MOVEMENT: u8 = 0x01;
-
-pub const PAIR: u8 = 0x02;
-
-pub const OPENING: u8 = 0x03;
-
-pub const ORDER_A: u8 = 0x04;
-
-pub const ORDER_B: u8 = 0x05;
-
-pub const CLOSING: u8 = 0x06;
 
 // A step takes this many bytes: a section, two for its set time, two for its release time.
 pub const STEP_BYTES: usize = 5;
@@ -32,14 +20,20 @@ const STEPS_PLACE: u8 = 4;
 
 const RUNS_PLACE: u8 = 2;
 
-// What a line says, by its kind. Steps and runs are a part of the line's bytes, with the place where it begins.
+// A part of a line's bytes, with the place in the line where it begins.
+#[derive(Clone, Copy)]
+pub struct Part<'a> {
+    pub place: u8,
+    pub bytes: &'a [u8],
+}
+
+// What a line says, by its kind. Steps and runs are a part of the line's bytes.
 #[derive(Clone, Copy)]
 pub enum Frame<'a> {
     Movement {
         number: u8,
         priority: u8,
-        place: u8,
-        steps: &'a [u8],
+        steps: Part<'a>,
     },
     Pair {
         first: u8,
@@ -52,12 +46,10 @@ pub enum Frame<'a> {
         seconds: u32,
     },
     OrderA {
-        place: u8,
-        runs: &'a [u8],
+        runs: Part<'a>,
     },
     OrderB {
-        place: u8,
-        runs: &'a [u8],
+        runs: Part<'a>,
     },
     Closing {
         movement: u8,
@@ -72,6 +64,13 @@ pub fn are_whole_steps(bytes: usize) -> bool
     bytes % STEP_BYTES == 0 && STEP_BYTES <= bytes && bytes <= STEP_BYTES * MOST_STEPS
 }
 
+// A line of no kind; the place is that of its kind.
+fn unknown_kind(line: usize) -> FrameFault
+    ensures { result ≡ unknown_fault line }
+{
+    FrameFault::Found(Fault::at(Stop::UnknownKind, line, KIND_PLACE))
+}
+
 // A line whose length is not one of its kind; the place is its last byte.
 fn wrong_length(line: usize, bytes: &[u8]) -> FrameFault
     ensures { result ≡ length_fault line bytes.now }
@@ -80,17 +79,17 @@ fn wrong_length(line: usize, bytes: &[u8]) -> FrameFault
 }
 
 impl<'a> Frame<'a> {
-    // The number of the frame's kind.
-    pub fn kind(self) -> u8
-        ensures { result ≡ kind_of (content self.entry) }
+    // The kind of line that the frame is of.
+    pub fn kind(self) -> Kind
+        ensures { result ≡ kind_in (content self.entry) }
     {
         match self {
-            Frame::Movement { .. } => MOVEMENT,
-            Frame::Pair { .. } => PAIR,
-            Frame::Opening { .. } => OPENING,
-            Frame::OrderA { .. } => ORDER_A,
-            Frame::OrderB { .. } => ORDER_B,
-            Frame::Closing { .. } => CLOSING,
+            Frame::Movement { .. } => Kind::Movement,
+            Frame::Pair { .. } => Kind::Pair,
+            Frame::Opening { .. } => Kind::Opening,
+            Frame::OrderA { .. } => Kind::OrderA,
+            Frame::OrderB { .. } => Kind::OrderB,
+            Frame::Closing { .. } => Kind::Closing,
         }
     }
 
@@ -98,17 +97,26 @@ impl<'a> Frame<'a> {
     pub fn read(line: usize, bytes: &'a [u8]) -> Result<Frame<'a>, FrameFault>
         ensures { meant result ≡ frame_of line bytes.now }
     {
-        match *bytes {
-            [MOVEMENT, number, priority, ref steps @ ..] if are_whole_steps(steps.len()) => {
-                let place = STEPS_PLACE;
-                Ok(Frame::Movement {
-                    number,
-                    priority,
-                    place,
-                    steps,
-                })
-            }
-            [PAIR, first, second, g1, g0, weight] => {
+        let [first, fields @ ..] = bytes else {
+            return Err(unknown_kind(line));
+        };
+        let Ok(kind) = Kind::try_from(*first) else {
+            return Err(unknown_kind(line));
+        };
+        match (kind, fields) {
+            (Kind::Movement, &[number, priority, ref steps @ ..]) if are_whole_steps(steps.len()) =>
+                {
+                    let steps = Part {
+                        place: STEPS_PLACE,
+                        bytes: steps,
+                    };
+                    Ok(Frame::Movement {
+                        number,
+                        priority,
+                        steps,
+                    })
+                }
+            (Kind::Pair, &[first, second, g1, g0, weight]) => {
                 let gap = two(g1, g0);
                 Ok(Frame::Pair {
                     first,
@@ -117,24 +125,29 @@ impl<'a> Frame<'a> {
                     weight,
                 })
             }
-            [OPENING, movement, s2, s1, s0] => {
+            (Kind::Opening, &[movement, s2, s1, s0]) => {
                 let seconds = three(s2, s1, s0);
                 Ok(Frame::Opening { movement, seconds })
             }
-            [ORDER_A, ref runs @ ..] if !runs.is_empty() => {
-                let place = RUNS_PLACE;
-                Ok(Frame::OrderA { place, runs })
+            (Kind::OrderA, runs) if !runs.is_empty() => {
+                let runs = Part {
+                    place: RUNS_PLACE,
+                    bytes: runs,
+                };
+                Ok(Frame::OrderA { runs })
             }
-            [ORDER_B, ref runs @ ..] if !runs.is_empty() => {
-                let place = RUNS_PLACE;
-                Ok(Frame::OrderB { place, runs })
+            (Kind::OrderB, runs) if !runs.is_empty() => {
+                let runs = Part {
+                    place: RUNS_PLACE,
+                    bytes: runs,
+                };
+                Ok(Frame::OrderB { runs })
             }
-            [CLOSING, movement, w2, w1, w0] => {
+            (Kind::Closing, &[movement, w2, w1, w0]) => {
                 let window = three(w2, w1, w0);
                 Ok(Frame::Closing { movement, window })
             }
-            [MOVEMENT..=CLOSING, ..] => Err(wrong_length(line, bytes)),
-            _ => Err(FrameFault::Found(Fault::at(Stop::UnknownKind, line, KIND_PLACE))),
+            _ => Err(wrong_length(line, bytes)),
         }
     }
 }

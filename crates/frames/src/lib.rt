@@ -4,3 +4,4 @@
 pub mod fault;
 pub mod fields;
 pub mod frame;
+pub mod kind;

@@ -6,20 +6,20 @@ ghost use Rattle.stops.specs.Stops.{number_of, fault, layer_name};
 
 use std::fmt;
 
-// One case for each rule that a line, a text or a book can break.
+// One case for each rule that a line, a text or a book can break, with the number by which planners know it.
 #[derive(Clone, Copy, PartialEq, Eq, Debug)]
 pub enum Stop {
-    OddDigits,
-    NotADigit,
-    TooLong,
-    UnknownKind,
-    WrongLength,
-    OutOfSequence,
-    OutOfRange,
-    GivenBefore,
-    NoSuchMovement,
-    Full,
-    Unfinished,
+    OddDigits = 1,
+    NotADigit = 2,
+    TooLong = 3,
+    UnknownKind = 4,
+    WrongLength = 5,
+    OutOfSequence = 6,
+    OutOfRange = 7,
+    GivenBefore = 8,
+    NoSuchMovement = 9,
+    Full = 10,
+    Unfinished = 11,
 }
 
 // The part of the reading that found a fault.
@@ -40,23 +40,11 @@ pub struct Fault {
 }
 
 impl Stop {
-    // The number by which planners know the stop.
+    // The number of the stop.
     pub fn number(self) -> u8
         ensures { result ≡ number_of self }
     {
-        match self {
-            Stop::OddDigits => 1,
-            Stop::NotADigit => 2,
-            Stop::TooLong => 3,
-            Stop::UnknownKind => 4,
-            Stop::WrongLength => 5,
-            Stop::OutOfSequence => 6,
-            Stop::OutOfRange => 7,
-            Stop::GivenBefore => 8,
-            Stop::NoSuchMovement => 9,
-            Stop::Full => 10,
-            Stop::Unfinished => 11,
-        }
+        self as u8
     }
 }
 
