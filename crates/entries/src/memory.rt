@@ -10,7 +10,7 @@ pub const MOST_MOVEMENTS: usize = 64;
 pub const MOST_RUNS: usize = 512;
 
 // One section of a movement's way: from a run's start, the seconds until it is set and until it is released.
-#[derive(Clone, Copy)]
+#[derive(Clone, Copy, Default)]
 pub struct Step {
     pub section: u8,
     pub set: u16,
@@ -33,7 +33,7 @@ pub struct Listed {
 }
 
 // One use of a movement.
-#[derive(Clone, Copy)]
+#[derive(Clone, Copy, Default)]
 pub struct Run {
     pub movement: u8,
 }

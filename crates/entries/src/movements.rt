@@ -5,5 +5,5 @@ ghost use Rattle.traces.specs.Clashes.{within};
 pub fn is_within(count: usize, movement: u8) -> bool
     ensures { result ≡ within count movement }
 {
-    1 <= movement && movement as usize <= count
+    1 <= movement && usize::from(movement) <= count
 }

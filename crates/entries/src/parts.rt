@@ -9,8 +9,8 @@ pub fn part_fits(frame: Frame<'_>) -> bool
     ensures { result ≡ part_fits (content frame.entry) }
 {
     match frame {
-        Frame::Movement { steps, .. } => are_whole_steps(steps.len()),
-        Frame::OrderA { runs, .. } | Frame::OrderB { runs, .. } => !runs.is_empty(),
+        Frame::Movement { steps, .. } => are_whole_steps(steps.bytes.len()),
+        Frame::OrderA(runs) | Frame::OrderB(runs) => !runs.bytes.is_empty(),
         Frame::Pair { .. } | Frame::Opening { .. } | Frame::Closing { .. } => true,
     }
 }
@@ -20,8 +20,8 @@ pub fn part_place(frame: Frame<'_>) -> usize
     ensures { result ≡ part_place (content frame.entry) }
 {
     match frame {
-        Frame::Movement { place, .. } | Frame::OrderA { place, .. } | Frame::OrderB { place, .. } =>
-            place as usize,
+        Frame::Movement { steps: part, .. } | Frame::OrderA(part) | Frame::OrderB(part) =>
+            usize::from(part.place),
         Frame::Pair { .. } | Frame::Opening { .. } | Frame::Closing { .. } => KIND_PLACE,
     }
 }

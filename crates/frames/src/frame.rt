@@ -1,6 +1,6 @@
 ghost use Rattle.std.specs.Prelude.{◌≡◌};
-ghost use Rattle.frames.specs.Kinds.{steps_length};
-ghost use Rattle.frames.specs.Frames.{content, kind_in, meant, frame_of, unknown_fault, length_fault};
+ghost use Rattle.frames.specs.Kinds.{kind_number, steps_length};
+ghost use Rattle.frames.specs.Frames.{content, kind_in, meant, by_kind, frame_of, unknown_fault, length_fault};
 
 use crate::fault::FrameFault;
 use crate::fields::{three, two};
@@ -27,6 +27,16 @@ pub struct Part<'a> {
     pub bytes: &'a [u8],
 }
 
+impl<'a> Part<'a> {
+    // The part that begins at the place.
+    fn at(place: u8, bytes: &'a [u8]) -> Part<'a>
+        ensures place { result.place ≡ place }
+        ensures bytes { result.bytes.now ≡ bytes.now }
+    {
+        Part { place, bytes }
+    }
+}
+
 // What a line says, by its kind. Steps and runs are a part of the line's bytes.
 #[derive(Clone, Copy)]
 pub enum Frame<'a> {
@@ -45,12 +55,8 @@ pub enum Frame<'a> {
         movement: u8,
         seconds: u32,
     },
-    OrderA {
-        runs: Part<'a>,
-    },
-    OrderB {
-        runs: Part<'a>,
-    },
+    OrderA(Part<'a>),
+    OrderB(Part<'a>),
     Closing {
         movement: u8,
         window: u32,
@@ -87,36 +93,27 @@ impl<'a> Frame<'a> {
             Frame::Movement { .. } => Kind::Movement,
             Frame::Pair { .. } => Kind::Pair,
             Frame::Opening { .. } => Kind::Opening,
-            Frame::OrderA { .. } => Kind::OrderA,
-            Frame::OrderB { .. } => Kind::OrderB,
+            Frame::OrderA(_) => Kind::OrderA,
+            Frame::OrderB(_) => Kind::OrderB,
             Frame::Closing { .. } => Kind::Closing,
         }
     }
 
-    // The frame of a line's bytes.
-    pub fn read(line: usize, bytes: &'a [u8]) -> Result<Frame<'a>, FrameFault>
-        ensures { meant result ≡ frame_of line bytes.now }
+    // The frame of a line of the kind, where its length is one of the kind.
+    fn of_kind(kind: Kind, line: usize, bytes: &'a [u8]) -> Result<Frame<'a>, FrameFault>
+        ensures { meant result ≡ by_kind line bytes.now (kind_number kind) }
     {
-        let [first, fields @ ..] = bytes else {
-            return Err(unknown_kind(line));
-        };
-        let Ok(kind) = Kind::try_from(*first) else {
-            return Err(unknown_kind(line));
-        };
-        match (kind, fields) {
-            (Kind::Movement, &[number, priority, ref steps @ ..]) if are_whole_steps(steps.len()) =>
-                {
-                    let steps = Part {
-                        place: STEPS_PLACE,
-                        bytes: steps,
-                    };
-                    Ok(Frame::Movement {
-                        number,
-                        priority,
-                        steps,
-                    })
-                }
-            (Kind::Pair, &[first, second, g1, g0, weight]) => {
+        match (kind, bytes) {
+            (Kind::Movement, &[_, number, priority, ref steps @ ..])
+                if are_whole_steps(steps.len()) => {
+                let steps = Part::at(STEPS_PLACE, steps);
+                Ok(Frame::Movement {
+                    number,
+                    priority,
+                    steps,
+                })
+            }
+            (Kind::Pair, &[_, first, second, g1, g0, weight]) => {
                 let gap = two(g1, g0);
                 Ok(Frame::Pair {
                     first,
@@ -125,29 +122,32 @@ impl<'a> Frame<'a> {
                     weight,
                 })
             }
-            (Kind::Opening, &[movement, s2, s1, s0]) => {
+            (Kind::Opening, &[_, movement, s2, s1, s0]) => {
                 let seconds = three(s2, s1, s0);
                 Ok(Frame::Opening { movement, seconds })
             }
-            (Kind::OrderA, runs) if !runs.is_empty() => {
-                let runs = Part {
-                    place: RUNS_PLACE,
-                    bytes: runs,
-                };
-                Ok(Frame::OrderA { runs })
-            }
-            (Kind::OrderB, runs) if !runs.is_empty() => {
-                let runs = Part {
-                    place: RUNS_PLACE,
-                    bytes: runs,
-                };
-                Ok(Frame::OrderB { runs })
-            }
-            (Kind::Closing, &[movement, w2, w1, w0]) => {
+            (Kind::OrderA, [_, runs @ ..]) if !runs.is_empty() => Ok(Frame::OrderA(Part::at(
+                RUNS_PLACE, runs,
+            ))),
+            (Kind::OrderB, [_, runs @ ..]) if !runs.is_empty() => Ok(Frame::OrderB(Part::at(
+                RUNS_PLACE, runs,
+            ))),
+            (Kind::Closing, &[_, movement, w2, w1, w0]) => {
                 let window = three(w2, w1, w0);
                 Ok(Frame::Closing { movement, window })
             }
             _ => Err(wrong_length(line, bytes)),
         }
+    }
+
+    // The frame of a line's bytes.
+    pub fn read(line: usize, bytes: &'a [u8]) -> Result<Frame<'a>, FrameFault>
+        ensures { meant result ≡ frame_of line bytes.now }
+    {
+        let [first, ..] = bytes else {
+            return Err(unknown_kind(line));
+        };
+        let kind = Kind::try_from(*first).map_err(|_| unknown_kind(line))?;
+        Frame::of_kind(kind, line, bytes)
     }
 }

@@ -19,23 +19,17 @@ impl Memory {
     pub fn new() -> Memory
         ensures { Blank result }
     {
-        let step = Step {
-            section: 0,
-            set: 0,
-            release: 0,
-        };
         let route = Route {
             priority: 0,
             count: 0,
-            steps: [step; MOST_STEPS],
+            steps: [Step::default(); MOST_STEPS],
         };
-        let run = Run { movement: 0 };
         Memory {
             routes: [route; MOST_MOVEMENTS],
             table: [[None; MOST_MOVEMENTS]; MOST_MOVEMENTS],
             openings: [None; MOST_MOVEMENTS],
-            order_a: [run; MOST_RUNS],
-            order_b: [run; MOST_RUNS],
+            order_a: [Run::default(); MOST_RUNS],
+            order_b: [Run::default(); MOST_RUNS],
         }
     }
 }
