@@ -1,13 +1,15 @@
 // What a reading answers where it stops: a fault of one of its layers.
 #![tactic(auto)]
 
-ghost use Rattle.std.specs.Prelude.{◌≡◌};
+ghost use Rattle.std.specs.Prelude.{◌≡◌, Some};
 ghost use Rattle.frames.specs.declared.fault.FrameFault.TheVariants.{Text};
 ghost use Rattle.faults.specs.declared.BookFault.TheVariants.{Frame as InFrame};
-ghost use Rattle.faults.specs.Faults.{layer_of, found_of};
+ghost use Rattle.faults.specs.Faults.{layer_of, found_of, stop_words};
 
 use frames::fault::FrameFault;
 use lines::fault::TextFault;
+use std::error::Error;
+use std::fmt;
 use stops::{Fault, Layer};
 
 // A fault of the frame layer, passed on whole, or what the book layer finds.
@@ -56,3 +58,16 @@ impl BookFault {
         }
     }
 }
+
+impl fmt::Display for BookFault {
+    ghost output = { λ f. Some (stop_words f) };
+
+    fn fmt<W: fmt::Write>(&self, f: &mut fmt::Formatter<W>) -> fmt::Result {
+        let Fault { stop, line, place } = self.found();
+        let number = stop.number();
+        let layer = self.layer();
+        write!(f, "stop {number} {line} {place} {layer}")
+    }
+}
+
+impl Error for BookFault {}
