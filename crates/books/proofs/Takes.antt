@@ -15,16 +15,16 @@ use Rattle.books.specs.Taking.{fields_check, judged, after_fields, with_closing,
 
 -- so many movements and runs as the draft counts stand in its memory
 module _ (d : Draft) (m : Memory) where
-  pub count_movements : length (draft_of d m).entries.movements ≡ d.movements
+  pub count_movements : length (draft_of d m).entries.movements ≡ d.counts.movements
   count_movements =
-      let inside : d.movements ≤ length m.routes = omega (arith, d.few, m.long) in
-      length-map (take d.movements m.routes) movement_of ∙ length-take-le d.movements m.routes inside
+      let inside : d.counts.movements ≤ length m.routes = omega (arith, d.counts.few, m.long) in
+      length-map (take d.counts.movements m.routes) movement_of ∙ length-take-le d.counts.movements m.routes inside
 
-  pub count_a : length (draft_of d m).entries.order_a ≡ d.runs_a
-  count_a = length-take-le d.runs_a m.order_a (omega (arith, d.short_a, m.long_a))
+  pub count_a : length (draft_of d m).entries.order_a ≡ d.counts.runs_a
+  count_a = length-take-le d.counts.runs_a m.order_a (omega (arith, d.counts.short_a, m.long_a))
 
-  pub count_b : length (draft_of d m).entries.order_b ≡ d.runs_b
-  count_b = length-take-le d.runs_b m.order_b (omega (arith, d.short_b, m.long_b))
+  pub count_b : length (draft_of d m).entries.order_b ≡ d.counts.runs_b
+  count_b = length-take-le d.counts.runs_b m.order_b (omega (arith, d.counts.short_b, m.long_b))
 
 module _ (h : Drafted) (c : Content) (n : ℕ) (many : length h.entries.movements ≡ n) where
   fields_at : after_fields h c ≡ judged (fields_check (next_line h.lines) n h c) (added h c)

@@ -10,6 +10,10 @@ use Rattle.books.specs.Held.{Drafted}
 abbrev pub next_line : ℕ → ℕ
 next_line n = min (n + 1) longest_text
 
+-- the draft with what a line's fields give; how many lines it took and the kind of the last stay
+abbrev pub with_fields : Drafted → Content → Drafted
+with_fields h c = record { lines = h.lines; last = h.last; entries = given h.entries c; closing = closing_after h.closing c }
+
 -- the draft with a line added
 abbrev pub added : Drafted → Content → Drafted
 added h c = record { lines = next_line h.lines; last = kind_of c; entries = given h.entries c; closing = closing_after h.closing c }

@@ -1,6 +1,7 @@
 -- When a draft takes a line, and which stop refuses it. Assumes nothing.
-use Rattle.std.specs.Prelude.{◌≡◌, ℕ, ◌+◌, Bool, cond, not, ◌&&◌, ◌||◌, List, [], length, is_some, Some, None, Ok, Err, Option, Result, ◌==◌, nat_le, nat_lt}
+use Rattle.std.specs.Prelude.{◌≡◌, ℕ, ◌+◌, ◌-◌, ◌≤◌, Bool, cond, not, ◌&&◌, ◌||◌, List, [], ◌++◌, length, take, is_some, Some, None, Ok, Err, Option, Result, ◌==◌, nat_le, nat_lt}
 use Rattle.stops.specs.declared.Stop.TheVariants.{WrongLength, OutOfSequence, OutOfRange, GivenBefore, NoSuchMovement, Full, Unfinished}
+use Rattle.stops.specs.declared.Fault.{Fault}
 use Rattle.stops.specs.Stops.{fault}
 use Rattle.traces.specs.Clashes.{within}
 use Rattle.frames.specs.Kinds.{closing_kind}
@@ -10,13 +11,14 @@ use Rattle.faults.specs.declared.BookFault.TheVariants.{Found}
 use Rattle.entries.specs.declared.memory.Step.{Step}
 use Rattle.entries.specs.declared.memory.Closing.{Closing}
 use Rattle.entries.specs.declared.memory.Memory.{Memory}
+use Rattle.entries.specs.declared.memory.Run.{Run}
 use Rattle.entries.specs.Entries.{listed, opened}
-use Rattle.entries.specs.Giving.{steps_of}
-use Rattle.entries.specs.Checks.{most_movements, Check, passed, stop_if, steps_check, runs_check, part_fits, part_place}
+use Rattle.entries.specs.Giving.{steps_of, runs_of}
+use Rattle.entries.specs.Checks.{most_movements, most_runs, Check, passed, stop_if, steps_check, runs_check, part_fits, part_place}
 use Rattle.books.specs.declared.state.Draft.{Draft}
 use Rattle.books.specs.declared.state.Book.{Book}
 use Rattle.books.specs.Held.{Drafted, Closed, draft_of, book_of}
-use Rattle.books.specs.Adding.{next_line, added}
+use Rattle.books.specs.Adding.{next_line, with_fields, added}
 
 -- a priority becomes a weight; both are 0 to 9
 abbrev pub highest_weight : ℕ
@@ -86,6 +88,33 @@ after_kind (Err f) h c = Err (Found f)
 -- a draft after one frame more
 abbrev pub after_frame : Drafted → Content → Result Drafted BookFault
 after_frame h c = after_kind (kind_check (next_line h.lines) h.last c) h c
+
+-- the index of movement m among n, or the fault of a line that names m at a place
+abbrev pub index_check : ℕ → ℕ → ℕ → ℕ → Result ℕ Fault
+index_check line n m place = cond (within n m) (Ok (m - 1)) (Err (fault NoSuchMovement line place))
+
+-- a call that takes a line's runs behind those that a row holds: they stand there and are counted where their tests pass;
+-- else the row is as it was
+abbrev pub RunsTaken : Draft → ℕ → ℕ → List ℕ → List Run → Result ℕ Fault → List Run → Type 0
+RunsTaken d held place runs row (Ok n) row' =
+    (runs_check (next_line d.counts.lines) d.counts.movements held place runs ≡ passed)
+    × (n ≡ held + length runs)
+    × (n ≤ most_runs)
+    × (take n row' ≡ take held row ++ runs_of runs)
+RunsTaken d held place runs row (Err f) row' =
+    (runs_check (next_line d.counts.lines) d.counts.movements held place runs ≡ Err f) × (row' ≡ row)
+
+-- a call that takes a line's fields: what they give is added where their tests pass; else draft and memory are as they were
+abbrev pub FieldsTaken : Content → Draft → Memory → Result (Unit {0}) Fault → Draft → Memory → Type 0
+FieldsTaken c d m (Ok u) d' m' =
+    (fields_check (next_line d.counts.lines) d.counts.movements (draft_of d m) c ≡ passed) × (draft_of d' m' ≡ with_fields (draft_of d m) c)
+FieldsTaken c d m (Err f) d' m' =
+    (fields_check (next_line d.counts.lines) d.counts.movements (draft_of d m) c ≡ Err f) × (d' ≡ d) × (m' ≡ m)
+
+-- a call that takes a whole line, likewise
+abbrev pub FrameTaken : Content → Draft → Memory → Result (Unit {0}) Fault → Draft → Memory → Type 0
+FrameTaken c d m (Ok u) d' m' = after_frame (draft_of d m) c ≡ Ok (draft_of d' m')
+FrameTaken c d m (Err f) d' m' = (after_frame (draft_of d m) c ≡ Err (Found f)) × (d' ≡ d) × (m' ≡ m)
 
 -- a call that takes a line: the draft and the memory mean what `s` says, or they are given back as they were
 abbrev pub Taken : Result Drafted BookFault → Draft → Memory → Result Draft (Draft × BookFault) → Memory → Type 0

@@ -39,7 +39,7 @@ impl Draft {
         buffer: &mut [u8; MOST_BYTES],
     ) -> Result<Draft, (Draft, BookFault)>
         ensures taken { Taken (after_line (draft_of self memory.old) characters.now) self memory.old result memory.new }
-        ensures buffer { Buffered (line_bytes (next_line self.lines) characters.now) buffer.old buffer.new }
+        ensures buffer { Buffered (line_bytes (next_line self.counts.lines) characters.now) buffer.old buffer.new }
     {
         let number = self.next_line();
         let line = Line {

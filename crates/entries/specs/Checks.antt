@@ -1,5 +1,6 @@
 -- The tests of a line's steps, of its runs and of its length, and which stop refuses it. Assumes nothing.
-use Rattle.std.specs.Prelude.{ℕ, ◌+◌, Bool, true, false, cond, not, ◌||◌, List, [], ◌∷◌, ◌++◌, length, Ok, Err, Result, ◌==◌, nat_le}
+use Rattle.std.specs.Prelude.{ℕ, ◌+◌, Bool, true, cond, not, List, [], ◌∷◌, ◌++◌, length, Ok, Err, Result, ◌==◌, nat_le}
+use Rattle.std.specs.List.{list_any}
 use Rattle.stops.specs.declared.Stop.TheVariants.{OutOfRange, GivenBefore, NoSuchMovement, Full}
 use Rattle.stops.specs.declared.Fault.{Fault}
 use Rattle.stops.specs.Stops.{fault}
@@ -28,8 +29,7 @@ stop_if b f next = cond b (Err f) next
 
 -- one of the steps is over section s
 abbrev pub uses : List Step → ℕ → Bool
-uses [] s = false
-uses (t ∷ ts) s = t.section == s || uses ts s
+uses ts s = list_any (λ (t : Step). t.section == s) ts
 
 -- step by step, where `before` are the earlier steps of the line: it is set before it is released, and its section is
 -- none of theirs; a step's place is its first byte

@@ -4,8 +4,8 @@ ghost use Rattle.entries.specs.Entries.{movement_at, pair_at};
 ghost use Rattle.books.specs.Held.{draft_of, book_of, empty};
 ghost use Rattle.books.specs.Taking.{after_frame, Taken, Shut};
 
-use super::{Book, Draft};
-use entries::memory::{Closing, Listed, MOST_MOVEMENTS, Memory, Route, Step};
+use super::{Book, Counts, Draft};
+use entries::memory::{Listed, MOST_MOVEMENTS, Memory, Route, Step};
 use entries::movements::is_within;
 use faults::BookFault;
 use frames::frame::Frame;
@@ -19,42 +19,28 @@ impl Draft {
         memory.table = [[None; MOST_MOVEMENTS]; MOST_MOVEMENTS];
         memory.openings = [None; MOST_MOVEMENTS];
         Draft {
-            lines: 0,
-            last_kind: 0,
-            movements: 0,
-            runs_a: 0,
-            runs_b: 0,
+            counts: Counts {
+                lines: 0,
+                movements: 0,
+                runs_a: 0,
+                runs_b: 0,
+            },
+            last_kind: None,
             closing: None,
         }
     }
 
     // The draft with a line more; or the draft as it was, with the fault that refuses the line, and the memory as it was.
-    pub fn take(self, memory: &mut Memory, frame: Frame<'_>) -> Result<Draft, (Draft, BookFault)>
+    pub fn take(
+        mut self,
+        memory: &mut Memory,
+        frame: Frame<'_>,
+    ) -> Result<Draft, (Draft, BookFault)>
         ensures { Taken (after_frame (draft_of self memory.old) (content frame.entry)) self memory.old result memory.new }
     {
-        if let Err(fault) = self.check_kind(frame) {
-            return Err((self, BookFault::Found(fault)));
-        }
-        match frame {
-            Frame::Movement {
-                number,
-                priority,
-                place,
-                steps,
-            } => { self.take_movement(memory, number, priority, place, steps) }
-            Frame::Pair {
-                first,
-                second,
-                gap,
-                weight,
-            } => { self.take_pair(memory, first, second, Listed { gap, weight }) }
-            Frame::Opening { movement, seconds } => self.take_opening(memory, movement, seconds),
-            Frame::OrderA { place, runs } => self.take_order_a(memory, place, runs),
-            Frame::OrderB { place, runs } => self.take_order_b(memory, place, runs),
-            Frame::Closing { movement, window } => self.take_closing(
-                memory,
-                Closing { movement, window },
-            ),
+        match self.take_frame(memory, frame) {
+            Ok(()) => Ok(self),
+            Err(fault) => Err((self, BookFault::Found(fault))),
         }
     }
 
@@ -62,66 +48,55 @@ impl Draft {
     pub fn close(self, memory: &Memory) -> Result<Book, (Draft, BookFault)>
         ensures { Shut self memory.now result }
     {
-        let unfinished = BookFault::Found(Fault::at(Stop::Unfinished, self.lines, 0));
-        if self.movements == 0 {
-            return Err((self, unfinished));
+        match self.closing {
+            Some(closing) if self.counts.movements > 0 => {
+                let Draft {
+                    counts,
+                    last_kind: _,
+                    closing: _,
+                } = self;
+                Ok(Book { counts, closing })
+            }
+            _ => {
+                let unfinished = Fault::at(Stop::Unfinished, self.counts.lines, 0);
+                Err((self, BookFault::Found(unfinished)))
+            }
         }
-        let Some(closing) = self.closing else {
-            return Err((self, unfinished));
-        };
-        let Draft {
-            lines,
-            last_kind: _,
-            movements,
-            runs_a,
-            runs_b,
-            closing: _,
-        } = self;
-        Ok(Book {
-            lines,
-            movements,
-            runs_a,
-            runs_b,
-            closing,
-        })
     }
 
     // Lets a draft go, and answers how many lines it had taken.
     pub fn give_up(self) -> usize
-        ensures { result ≡ self.lines }
+        ensures { result ≡ self.counts.lines }
     {
         let Draft {
-            lines: taken,
+            counts,
             last_kind: _,
-            movements: _,
-            runs_a: _,
-            runs_b: _,
             closing: _,
         } = self;
-        taken
+        counts.lines
     }
 }
 
 impl Book {
     // How many lines the book has.
     pub fn lines(&self) -> usize
-        ensures { result ≡ self.now.lines }
+        ensures { result ≡ self.now.counts.lines }
     {
-        self.lines
+        self.counts.lines
     }
 
     // How many movements the book has, 1 to 64.
     pub fn movements(&self) -> u8
-        ensures { result ≡ self.now.movements }
+        ensures { result ≡ self.now.counts.movements }
     {
-        self.movements as u8
+        self.counts.movements as u8
     }
 
     // The steps of a movement; none for a number that no movement has.
     pub fn steps<'m>(&self, memory: &'m Memory, movement: u8) -> &'m [Step]
         ensures { result.now ≡ (movement_at (book_of self.now memory.now).entries movement).steps }
     {
-        if !is_within(self.movements, movement) {
+        if !is_within(self.counts.movements, movement) {
             return &[];
         }
         let routes: &[Route] = &memory.routes;
@@ -132,7 +107,7 @@ impl Book {
     pub fn priority(&self, memory: &Memory, movement: u8) -> u8
         ensures { result ≡ (movement_at (book_of self.now memory.now).entries movement).priority }
     {
-        if !is_within(self.movements, movement) {
+        if !is_within(self.counts.movements, movement) {
             return 0;
         }
         memory.routes[movement as usize - 1].priority
@@ -142,7 +117,7 @@ impl Book {
     pub fn listed(&self, memory: &Memory, first: u8, second: u8) -> Option<Listed>
         ensures { result ≡ pair_at (book_of self.now memory.now).entries first second }
     {
-        if !is_within(self.movements, first) || !is_within(self.movements, second) {
+        if !is_within(self.counts.movements, first) || !is_within(self.counts.movements, second) {
             return None;
         }
         memory.table[first as usize - 1][second as usize - 1]

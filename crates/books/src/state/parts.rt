@@ -4,7 +4,7 @@ ghost use Rattle.entries.specs.Giving.{steps_of, runs_of};
 
 use entries::memory::{Route, Run, Step};
 use frames::fields::two;
-use frames::frame::MOST_STEPS;
+use frames::frame::{MOST_STEPS, STEP_BYTES};
 
 // The steps that a movement's bytes give, five bytes each.
 pub(crate) fn read_route(priority: u8, bytes: &[u8]) -> Route
@@ -12,25 +12,18 @@ pub(crate) fn read_route(priority: u8, bytes: &[u8]) -> Route
     ensures steps { movement_of result ≡ record { priority = priority; steps = steps_of bytes.now } }
     ensures within { result.count ≤ 24 }
 {
-    let mut steps = [Step {
-        section: 0,
-        set: 0,
-        release: 0,
-    }; MOST_STEPS];
-    let mut count = 0;
-    let mut rest = bytes;
-    while let [section, s1, s0, r1, r0, tail @ ..] = rest {
-        steps[count] = Step {
-            section: *section,
-            set: two(*s1, *s0),
-            release: two(*r1, *r0),
+    let (given, _) = bytes.as_chunks::<STEP_BYTES>();
+    let mut steps = [Step::default(); MOST_STEPS];
+    for (i, &[section, s1, s0, r1, r0]) in given.iter().enumerate() {
+        steps[i] = Step {
+            section,
+            set: two(s1, s0),
+            release: two(r1, r0),
         };
-        count += 1;
-        rest = tail;
     }
     Route {
         priority,
-        count,
+        count: given.len(),
         steps,
     }
 }
@@ -40,11 +33,9 @@ pub(crate) fn write_runs(row: &mut [Run], held: usize, runs: &[u8])
     requires { held + length runs.now ≤ length row.old }
     ensures { take (held + length runs.now) row.new ≡ take held row.old ++ runs_of runs.now }
 {
-    let mut at = held;
-    for movement in runs {
-        row[at] = Run {
+    for (i, movement) in runs.iter().enumerate() {
+        row[held + i] = Run {
             movement: *movement,
         };
-        at += 1;
     }
 }

@@ -6,9 +6,9 @@ use Rattle.books.proofs.state.Book.steps.Goals as goal
 
 pub returns-then-not-is_within : goal.returns-then-not-is_within
 returns-then-not-is_within c =
-    sym (ap (λ (x : Movement). x.steps) (no_movement c.args.self.now.movements c.args.self.now.runs_a c.args.self.now.runs_b c.args.movement c.args.memory.now (omega arith) (sym c.if-not-is_within.ensures)))
+    sym (ap (λ (x : Movement). x.steps) (no_movement c.args.self.now.counts.movements c.args.self.now.counts.runs_a c.args.self.now.counts.runs_b c.args.movement c.args.memory.now (omega arith) (sym c.if-not-is_within.ensures)))
 
 pub returns : goal.returns
 returns c =
     let none : Route = record { priority = 0; count = 0; steps = [] } in
-    c.steps.ensures ∙ sym (ap (λ (x : Movement). x.steps) (movement_found c.args.self.now.movements c.args.self.now.runs_a c.args.self.now.runs_b c.args.movement c.args.memory.now (omega arith) none (sym c.if-not-is_within.ensures)))
+    c.steps.ensures ∙ sym (ap (λ (x : Movement). x.steps) (movement_found c.args.self.now.counts.movements c.args.self.now.counts.runs_a c.args.self.now.counts.runs_b c.args.movement c.args.memory.now (omega arith) none (sym c.if-not-is_within.ensures)))

@@ -2,9 +2,7 @@ use Rattle.std.proofs.Common.{◌≡◌, ◌+◌, ◌≤◌, drop}
 use Rattle.entries.specs.Checks.{runs_check}
 use Rattle.books.proofs.state.checks.check_runs.Given as goal
 
-abbrev pub invariant-loop-movement : goal.invariant-loop-movement
-invariant-loop-movement l =
-    (runs_check l.line l.count l.len l.at (drop l.movement-index l.runs) ≡ runs_check l.line l.count l.held l.place l.runs)
-    × (l.len ≤ 512)
-    × (l.len ≡ l.held + l.movement-index)
-    × (l.at ≡ l.place + l.movement-index)
+abbrev pub invariant-loop-i : goal.invariant-loop-i
+invariant-loop-i l =
+    (runs_check l.line l.count (l.held + l.i) (l.runs.place + l.i) (drop l.i l.runs.bytes.now) ≡ runs_check l.line l.count l.held l.runs.place l.runs.bytes.now)
+    × (l.held + l.i ≤ 512)

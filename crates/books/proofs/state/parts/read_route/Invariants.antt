@@ -1,9 +1,6 @@
-use Rattle.std.proofs.Common.{length}
-use Rattle.books.proofs.Loops.{Read}
+use Rattle.std.proofs.Common.{◌≡◌, length, map, take}
+use Rattle.books.proofs.Loops.{step_in}
 use Rattle.books.proofs.state.parts.read_route.Given as goal
 
-abbrev pub invariant-loop-rest : goal.invariant-loop-rest
-invariant-loop-rest l = Read l.bytes l.count l.rest l.steps
-
-abbrev pub decreases-loop-rest : goal.decreases-loop-rest
-decreases-loop-rest l = length l.rest
+abbrev pub invariant-loop-i : goal.invariant-loop-i
+invariant-loop-i l = (take l.i l.steps ≡ map step_in (take l.i l.given)) × (length l.steps ≡ 24)
