@@ -1,5 +1,4 @@
 pub mod Loops
-pub mod Takes
 pub mod Readings
 pub mod Saying
 pub mod Found

@@ -1,4 +1,3 @@
 pub mod Passing
 pub mod Numbered
 pub mod Tables
-pub mod Writing
