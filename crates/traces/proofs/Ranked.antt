@@ -30,12 +30,12 @@ ranks_first b v = grind (arith, nat_tests)
 pub weigh_tells : (s w : ℕ) → ((s < 99_999_999) × (weigh s w ≡ min w 9_999)) ⊎ ((99_999_999 ≤ s) × (weigh s w ≡ 0))
 weigh_tells s w = grind (arith, nat_tests)
 
-pub weigh_settled : (s w : ℕ) → weigh (cut s) (weigh s w) ≡ weigh s w
-weigh_settled s w = grind (arith, nat_tests)
+pub weigh_again : (s w : ℕ) → weigh s (weigh s w) ≡ weigh s w
+weigh_again s w = grind (arith, nat_tests)
 
 -- more seconds, or the same and no less weight: so it is with the same added to both
-pub ranks_shifted : (a u b v c w : ℕ) → ranks a u b v ≡ true → ranks (cut (a + c)) (weigh (a + c) (u + w)) (cut (b + c)) (weigh (b + c) (v + w)) ≡ true
+pub ranks_shifted : (a u b v c w : ℕ) → ranks a u b v ≡ true → ranks (cut (a + c)) (weigh (cut (a + c)) (u + w)) (cut (b + c)) (weigh (cut (b + c)) (v + w)) ≡ true
 ranks_shifted a u b v c w h = grind (arith, nat_tests, weigh_tells)
 
-pub ranks_grows : (s w c v : ℕ) → ranks (cut s) (weigh s w) (cut (cut s + c)) (weigh (cut s + c) (weigh s w + v)) ≡ true
+pub ranks_grows : (s w c v : ℕ) → ranks (cut s) (weigh (cut s) w) (cut (cut s + c)) (weigh (cut (cut s + c)) (weigh (cut s) w + v)) ≡ true
 ranks_grows s w c v = grind (arith, nat_tests)
