@@ -13,4 +13,4 @@ union_gap not_after false c g h = h
 
 -- the union covers the greater count, and keeps the laws
 pub union_laws : {m n : ℕ} {c d : ℕ → ℕ → Bool} → Lawful m c → Lawful n d → Lawful (max m n) (either c d)
-union_laws {m} {n} {c} {d} f g = union_is_lawful m n c d f g
+union_laws f g = union_is_lawful _ _ _ _ f g

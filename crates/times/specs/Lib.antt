@@ -1,3 +1,4 @@
 pub mod Plain
 pub mod Ranked
+pub mod Laws
 pub mod Rows

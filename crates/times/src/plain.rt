@@ -1,5 +1,6 @@
 ghost use Rattle.std.specs.Prelude.{◌≡◌};
-ghost use Rattle.times.specs.Plain.{plain, plain_meaning, plain_sum, plain_not_after, plain_laws};
+ghost use Rattle.times.specs.Plain.{plain, plain_meaning, plain_sum, plain_not_after};
+ghost use Rattle.times.specs.Laws.{plain_laws};
 
 use crate::time::Time;
 

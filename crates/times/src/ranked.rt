@@ -1,32 +1,44 @@
 ghost use Rattle.std.specs.Prelude.{◌≡◌};
-ghost use Rattle.times.specs.Ranked.{ranked, ranked_meaning, ranked_sum, ranked_not_after, ranked_laws};
+ghost use Rattle.times.specs.Ranked.{weighed, ranked, ranked_meaning, ranked_sum, ranked_not_after};
+ghost use Rattle.times.specs.Laws.{ranked_laws};
 
-use crate::plain::LAST_SECOND;
+use crate::plain::{LAST_SECOND, Plain};
 use crate::time::Time;
 
 // The greatest weight: no making and no sum goes past it.
 pub const GREATEST_WEIGHT: u16 = 9_999;
 
-// Ranked time: seconds, then a weight, which is 0 at the last second.
+// Ranked time: plain time, then a weight, which is 0 at the last second.
 #[derive(Clone, Copy)]
 pub struct Ranked {
-    pub(crate) seconds: u32,
+    pub(crate) time: Plain,
     pub(crate) weight: u16,
 }
 
 impl Ranked {
+    // A plain time with a weight, which is cut.
+    fn weighed(time: Plain, weight: u16) -> Ranked
+        ensures { result ≡ weighed time weight }
+    {
+        let given = Ranked { time, weight };
+        Ranked {
+            time,
+            weight: given.weight(),
+        }
+    }
+
     // The seconds of the time that the value means.
     pub fn seconds(self) -> u32
-        ensures { result ≡ (ranked_meaning self).seconds }
+        ensures { result ≡ (ranked_meaning self).time.seconds }
     {
-        self.seconds.min(LAST_SECOND)
+        self.time.seconds()
     }
 
     // The weight of the time that the value means.
     pub fn weight(self) -> u16
         ensures { result ≡ (ranked_meaning self).weight }
     {
-        if self.seconds < LAST_SECOND {
+        if self.seconds() < LAST_SECOND {
             self.weight.min(GREATEST_WEIGHT)
         } else {
             0
@@ -49,27 +61,20 @@ impl Time for Ranked {
 
     fn zero() -> Ranked {
         Ranked {
-            seconds: 0,
+            time: Plain::zero(),
             weight: 0,
         }
     }
 
     fn make(seconds: u32, weight: u16) -> Ranked {
-        let time = Ranked { seconds, weight };
-        Ranked {
-            seconds: time.seconds(),
-            weight: time.weight(),
-        }
+        Ranked::weighed(Plain::make(seconds, weight), weight)
     }
 
     fn plus(self, other: Ranked) -> Ranked {
-        let seconds = self.seconds() + other.seconds();
-        let weight = self.weight() + other.weight();
-        Ranked::make(seconds, weight)
+        Ranked::weighed(self.time.plus(other.time), self.weight() + other.weight())
     }
 
     fn not_after(self, other: Ranked) -> bool {
-        self.seconds() < other.seconds()
-            || (self.seconds() == other.seconds() && self.weight() <= other.weight())
+        (self.seconds(), self.weight()) <= (other.seconds(), other.weight())
     }
 }

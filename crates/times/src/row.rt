@@ -9,17 +9,6 @@ pub struct Row<'a, T> {
     pub times: &'a mut [T],
 }
 
-// The time at an index, or none outside of the slice.
-fn read<T: Time>(times: &[T], index: usize) -> Option<T>
-    ensures { result ≡ time_at times.now index }
-{
-    if index < times.len() {
-        Some(times[index])
-    } else {
-        None
-    }
-}
-
 impl<'a, T: Time> Row<'a, T> {
     // A row over the slice.
     pub fn new(times: &'a mut [T]) -> Row<'a, T>
@@ -40,7 +29,7 @@ impl<'a, T: Time> Row<'a, T> {
     pub fn get(&self, index: usize) -> Option<T>
         ensures { result ≡ time_at self.now.times.now index }
     {
-        read(self.times, index)
+        self.times.get(index).copied()
     }
 
     // Writes a time at an index from 0 and answers yes; outside of the row, answers no and leaves the row.

@@ -11,13 +11,15 @@ fn values_past_the_ends(rt: HostRuntime) {
     assert_eq!(rt; last.plus(last).seconds(), 99_999_999);
     assert!(rt; last.not_after(Plain::make(99_999_999, 0)));
     let end = Ranked {
-        seconds: 99_999_999,
+        time: Plain {
+            seconds: 99_999_999,
+        },
         weight: 5,
     };
     assert_eq!(rt; end.weight(), 0);
     assert!(rt; end.not_after(Ranked::make(99_999_999, 0)));
     let heavy = Ranked {
-        seconds: 10,
+        time: Plain { seconds: 10 },
         weight: u16::MAX,
     };
     assert_eq!(rt; heavy.plus(heavy).weight(), 9_999);

@@ -38,6 +38,7 @@ pub trait Time: Copy {
         ensures { result ≡ not_after self other };
 
     // The later of two times.
+    #[tactic(auto, unfolding(traces::specs::Kinds::later_of))]
     fn later(self, other: Self) -> Self
         ensures { result ≡ later_of not_after self other }
     {

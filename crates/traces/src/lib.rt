@@ -5,6 +5,7 @@ ghost use Rattle.traces.specs.Kinds.{LaterIsLatest};
 ghost use Rattle.traces.specs.Clashes.{MutualTestIsLawful, EitherWayIsMutual, MeetingInWords, MeetingIsMutual, UnionIsLawful};
 
 // The later of two times is one of them, and neither is after it, in every kind of time.
+#[tactic(auto, unfolding(crate::specs::Kinds::later_of))]
 pub fn later_is_latest<T>()
     ensures { LaterIsLatest T }
 {}
@@ -20,11 +21,13 @@ pub fn either_way_is_mutual()
 {}
 
 // Two lists meet exactly when some number stands in both.
+#[tactic(auto, using(crate::proofs::Meeting::meeting_in_words))]
 pub fn meeting_in_words()
     ensures { MeetingInWords }
 {}
 
 // Whether two lists meet does not depend on their order.
+#[tactic(auto, using(crate::proofs::Meeting::meeting_is_mutual))]
 pub fn meeting_is_mutual()
     ensures { MeetingIsMutual }
 {}
