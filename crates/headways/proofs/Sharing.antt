@@ -109,7 +109,7 @@ sharing_is_clashing book memory steps a b =
     (λ inside same.
     let none : Movement = record { priority = 0; steps = [] } in
     let ms : List Movement = (held book memory).movements in
-    let count : length ms ≡ count_of book = length_movements book.movements book.runs_a book.runs_b a memory (omega (arith, book.few, memory.long)) in
+    let count : length ms ≡ count_of book = length_movements book.counts.movements book.counts.runs_a book.counts.runs_b a memory (omega (arith, book.counts.few, memory.long)) in
     let known : within (length ms) a ≡ true = ap (λ k. within k a) count ∙ inside in
     let found : movement_at (held book memory) a ≡ get_or ms (a - 1) none = cond-true (within (length ms) a) _ _ known in
     let bounds = and_parts (leb 1 a) (leb a (length ms)) known in

@@ -24,7 +24,7 @@ listing e a b = is_some (pair_at e a b)
 
 -- how many movements a book has
 abbrev pub count_of : Book → ℕ
-count_of book = book.movements
+count_of book = book.counts.movements
 
 -- what a book holds with its memory
 abbrev pub held : Book → Memory → Entries
@@ -53,12 +53,12 @@ table_gap origin made e a b = listed_gap origin made (pair_at e a b)
 -- whatever the memory holds, both keep the laws
 pub sections_laws : (book : Book) (memory : Memory) → Lawful (count_of book) (sections_rule book memory)
 sections_laws book memory =
-    mutual_test_is_lawful (count_of book) (sharing (held book memory)) book.some book.few
+    mutual_test_is_lawful (count_of book) (sharing (held book memory)) book.some book.counts.few
     (λ a b. meeting_is_mutual (sections_of (movement_at (held book memory) a).steps) (sections_of (movement_at (held book memory) b).steps))
 
 pub table_laws : (book : Book) (memory : Memory) → Lawful (count_of book) (table_rule book memory)
 table_laws book memory =
-    mutual_test_is_lawful (count_of book) (either_way (listing (held book memory))) book.some book.few
+    mutual_test_is_lawful (count_of book) (either_way (listing (held book memory))) book.some book.counts.few
     (either_way_is_mutual (listing (held book memory)))
 
 -- a line lists the ordered pair (a, b)
