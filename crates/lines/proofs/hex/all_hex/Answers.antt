@@ -1,9 +1,15 @@
-use Rattle.std.proofs.Common.{rules, tests, true, ◌&&◌, ◌∙◌}
+use Rattle.std.proofs.Common.{rules, tests, ◌≡◌, Bool, true, false, ◌&&◌, List, [], ◌∷◌, refl, ◌∙◌}
+use Rattle.std.specs.List.{fold, list_all}
 use Rattle.std.proofs.lemmas.Iterator.{YieldsList-from_slice}
 use Rattle.std.proofs.lemmas.Iterator.Consumers.{fold_from_yields_List}
 use Rattle.lines.specs.Hex.{is_hex}
-use Rattle.lines.proofs.Turns.{folded_all}
 use Rattle.lines.proofs.hex.all_hex.Goals as goal
+
+folded_all : {X : Type 0} (p : X → Bool) (all : Bool) (xs : List X) → fold (λ a x. a && p x) all xs ≡ (all && list_all p xs)
+folded_all p true [] = refl
+folded_all p false [] = refl
+folded_all p true (x ∷ xs) = folded_all p (p x) xs
+folded_all p false (x ∷ xs) = folded_all p false xs
 
 pub returns : goal.returns
 returns c =

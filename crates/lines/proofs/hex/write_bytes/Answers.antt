@@ -1,7 +1,7 @@
 use Rattle.std.proofs.Common.{◌≡◌, [], get_or, length, take, drop, map, ap, sym, ◌∙◌, arith}
 use Rattle.std.proofs.lemmas.List.{take_all, length-map}
 use Rattle.lines.specs.Hex.{is_hex, bytes_of}
-use Rattle.lines.proofs.Turns.{byte_of, bytes_of_pairs, pairs_digits}
+use Rattle.lines.proofs.Pairs.{byte_of, bytes_of_pairs, pairs_digits}
 use Rattle.lines.proofs.hex.write_bytes.Goals as goal
 
 pub nibble-requires : goal.nibble-requires

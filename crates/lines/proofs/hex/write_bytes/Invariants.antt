@@ -1,5 +1,5 @@
 use Rattle.std.proofs.Common.{◌≡◌, take, drop, map}
-use Rattle.lines.proofs.Turns.{byte_of}
+use Rattle.lines.proofs.Pairs.{byte_of}
 use Rattle.lines.proofs.hex.write_bytes.Given as goal
 
 abbrev pub invariant-loop-i : goal.invariant-loop-i

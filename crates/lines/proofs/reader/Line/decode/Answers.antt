@@ -1,10 +1,14 @@
-use Rattle.std.proofs.Common.{◌≡◌, take, None, refl, ap, sym, ◌∙◌, arith}
-use Rattle.std.specs.List.{flat_map}
+use Rattle.std.proofs.Common.{◌≡◌, ℕ, ◌+◌, true, not, List, [], ◌∷◌, take, None, refl, ap, sym, ◌∙◌, arith}
+use Rattle.std.specs.List.{flat_map, list_all, position_from}
 use Rattle.std.proofs.lemmas.Bool.Decides.{nat_tests}
-use Rattle.lines.specs.Hex.{bad_place, bytes_of, digits}
+use Rattle.lines.specs.Hex.{is_hex, bad_place, bytes_of, digits}
 use Rattle.lines.proofs.Digits.{bytes_half, digits_bytes}
-use Rattle.lines.proofs.Turns.{all_good}
 use Rattle.lines.proofs.reader.Line.decode.Goals as goal
+
+-- where no place is bad all are digits
+all_good : (at : ℕ) (xs : List ℕ) → position_from (λ x. not (is_hex x)) at xs ≡ None → list_all is_hex xs ≡ true
+all_good at [] e = refl
+all_good at (x ∷ xs) e = let more = all_good (at + 1) xs in grind (arith, more)
 
 pub returns-then-digits-gt-LONGEST_LINE : goal.returns-then-digits-gt-LONGEST_LINE
 returns-then-digits-gt-LONGEST_LINE c = (grind (arith, nat_tests), refl)
