@@ -31,7 +31,7 @@ fn nibble(digit: u8) -> u8
     }
 }
 
-// Whether every character is a digit. A fold has one way out, and so is compiled to wide instructions.
+// Whether every character is a digit. A fold never stops early, and so is compiled to wide instructions.
 fn all_hex(line: &[u8]) -> bool
     ensures { result ≡ list_all is_hex line.now }
 {

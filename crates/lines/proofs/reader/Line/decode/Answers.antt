@@ -10,9 +10,6 @@ all_good : (at : ℕ) (xs : List ℕ) → position_from (λ x. not (is_hex x)) a
 all_good at [] e = refl
 all_good at (x ∷ xs) e = let more = all_good (at + 1) xs in grind (arith, more)
 
-pub returns-then-digits-gt-LONGEST_LINE : goal.returns-then-digits-gt-LONGEST_LINE
-returns-then-digits-gt-LONGEST_LINE c = (grind (arith, nat_tests), refl)
-
 pub write_bytes-requires-clause-digits : goal.write_bytes-requires-clause-digits
 write_bytes-requires-clause-digits c = all_good 1 c.args.self.part.now (sym c.bad_place.ensures ∙ c.in_default.is)
 

@@ -1,14 +1,9 @@
 use Rattle.std.proofs.Common.{◌≡◌, ◌+◌, ◌-◌, ◌<◌, min, ◌∷◌, ◌==◌, length, take, drop, sym, refl, ap, ◌∙◌, arith, length-drop}
 use Rattle.std.specs.List.{position_or_len}
-use Rattle.std.proofs.lemmas.List.{take_rest, drop_all, drop_min, drop-drop, length-take-le}
+use Rattle.std.proofs.lemmas.List.{take_rest, drop_min, drop-drop, length-take-le}
 use Rattle.lines.specs.Texts.{line_end, front, after, lines_of}
 use Rattle.lines.proofs.Cuts.{first_line}
 use Rattle.lines.proofs.reader.Reader.next_line.Goals as goal
-
-pub returns-then-self : goal.returns-then-self
-returns-then-self c =
-    let none = drop_all c.args.self.now.at c.args.self.now.text.now c.if-self.true in
-    (none, none, refl)
 
 pub returns : goal.returns
 returns c =
