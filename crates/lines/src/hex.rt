@@ -4,7 +4,7 @@ ghost use Rattle.lines.specs.Hex.{is_hex, nibble_of, bad_place, bytes_of, Decode
 
 use crate::fault::TextFault;
 use crate::reader::Line;
-use stops::{Fault, Stop};
+use stops::Stop;
 
 // A line has at most this many characters, its line end not counted.
 pub const LONGEST_LINE: usize = 246;
@@ -71,19 +71,13 @@ impl Line<'_> {
         let line = self.number;
         let digits = self.part;
         if digits.len() > LONGEST_LINE {
-            return Err(TextFault {
-                found: Fault::at(Stop::TooLong, line, LONGEST_LINE + 1),
-            });
+            return Err(TextFault::at(Stop::TooLong, line, LONGEST_LINE + 1));
         }
         if let Some(place) = bad_place(digits) {
-            return Err(TextFault {
-                found: Fault::at(Stop::NotADigit, line, place),
-            });
+            return Err(TextFault::at(Stop::NotADigit, line, place));
         }
         if digits.len() % 2 != 0 {
-            return Err(TextFault {
-                found: Fault::at(Stop::OddDigits, line, digits.len()),
-            });
+            return Err(TextFault::at(Stop::OddDigits, line, digits.len()));
         }
         Ok(write_bytes(digits, buffer))
     }

@@ -6,7 +6,7 @@ ghost use Rattle.lines.specs.Reading.{Measured, Begins, lines_left, Yielded};
 
 use super::{LONGEST_TEXT, Line, Reader};
 use crate::fault::TextFault;
-use stops::{Fault, Stop};
+use stops::Stop;
 
 const LINE_END: u8 = b'\n';
 
@@ -25,9 +25,7 @@ pub fn check_length(text: &[u8]) -> Result<(), TextFault>
     ensures { Measured text.now result }
 {
     if text.len() > LONGEST_TEXT {
-        return Err(TextFault {
-            found: Fault::at(Stop::TooLong, 0, 0),
-        });
+        return Err(TextFault::at(Stop::TooLong, 0, 0));
     }
     Ok(())
 }
