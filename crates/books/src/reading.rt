@@ -63,9 +63,8 @@ pub fn read_book(text: &[u8], memory: &mut Memory) -> Result<Book, (Draft, BookF
     if let Err(fault) = check_length(text) {
         return Err((draft, BookFault::from(fault)));
     }
-    let mut reader = Reader::new(text);
     let mut buffer = [0; MOST_BYTES];
-    while let Some(line) = reader.next_line() {
+    for line in Reader::new(text) {
         draft = draft.take_line(memory, line.part, &mut buffer)?;
     }
     draft.close(memory)

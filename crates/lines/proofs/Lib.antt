@@ -1,4 +1,3 @@
-pub mod Fronts
 pub mod Cuts
+pub mod Pairs
 pub mod Digits
-pub mod Turns

@@ -1,6 +1,6 @@
 -- What the digits of a line spell. Assumes nothing.
-use Rattle.std.specs.Prelude.{◌≡◌, ℕ, ◌+◌, ◌-◌, ◌*◌, ◌/◌, ◌%◌, ◌≤◌, Bool, true, cond, ◌&&◌, ◌||◌, List, [], ◌∷◌, length, take, drop, Some, None, Ok, Err, Option, Result, ◌==◌, nat_le}
-use Rattle.std.specs.List.{flat_map}
+use Rattle.std.specs.Prelude.{◌≡◌, ℕ, ◌+◌, ◌-◌, ◌*◌, ◌/◌, ◌%◌, ◌≤◌, Bool, not, cond, ◌&&◌, ◌||◌, List, [], ◌∷◌, length, take, drop, Some, None, Ok, Err, Option, Result, ◌==◌, nat_le}
+use Rattle.std.specs.List.{flat_map, position_from}
 use Rattle.stops.specs.declared.Stop.TheVariants.{OddDigits, NotADigit, TooLong}
 use Rattle.lines.specs.declared.fault.TextFault.{TextFault}
 use Rattle.lines.specs.Reading.{text_fault}
@@ -21,19 +21,13 @@ is_letter c = nat_le 65 c && nat_le c 70
 abbrev pub is_hex : ℕ → Bool
 is_hex c = is_decimal c || is_letter c
 
--- every character is a digit
-abbrev pub all_hex : List ℕ → Bool
-all_hex [] = true
-all_hex (c ∷ cs) = is_hex c && all_hex cs
-
 -- what a digit stands for
 abbrev pub nibble_of : ℕ → ℕ
 nibble_of c = cond (is_decimal c) (c - 48) (cond (is_letter c) (c - 55) 0)
 
--- the place of the first character that is no digit, where the first character stands at `at`
-abbrev pub bad_place : ℕ → List ℕ → Option ℕ
-bad_place at [] = None
-bad_place at (c ∷ cs) = cond (is_hex c) (bad_place (at + 1) cs) (Some at)
+-- the place of the first character that is no digit, where the line's first stands at 1
+abbrev pub bad_place : List ℕ → Option ℕ
+bad_place line = position_from (λ c. not (is_hex c)) 1 line
 
 -- two digits make a byte, the high one first
 abbrev pub bytes_of : List ℕ → List ℕ
@@ -48,7 +42,7 @@ even_bytes number line None = cond (length line % 2 == 0) (Ok (bytes_of line)) (
 
 -- the bytes of a line: first its length is tested, then its characters, then that they pair off
 abbrev pub line_bytes : ℕ → List ℕ → Result (List ℕ) TextFault
-line_bytes number line = cond (nat_le (length line) longest_line) (even_bytes number line (bad_place 1 line)) (Err (text_fault TooLong number (longest_line + 1)))
+line_bytes number line = cond (nat_le (length line) longest_line) (even_bytes number line (bad_place line)) (Err (text_fault TooLong number (longest_line + 1)))
 
 -- the digit of a number below 16
 abbrev pub digit : ℕ → ℕ

@@ -20,6 +20,10 @@ text_fault s l p = record { found = fault s l p }
 abbrev pub unread : Reader → List ℕ
 unread r = drop r.at r.text.now
 
+-- the lines that a reader has yet to yield
+abbrev pub lines_left : Reader → List (List ℕ)
+lines_left r = lines_of (unread r)
+
 -- a reader that begins: nothing is read. What it will yield are the lines of the text, by the law that fixes them
 pub record Begins (text : List ℕ) (r : Reader) : Type 0 where
   pub all : unread r ≡ text

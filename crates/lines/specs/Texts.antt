@@ -1,6 +1,6 @@
 -- The lines of a text. Assumes nothing.
 use Rattle.std.specs.Prelude.{◌≡◌, ℕ, cond, List, [], ◌∷◌, ◌++◌, ◌==◌, ◌≢◌}
-use Rattle.std.specs.List.{flat_map, AllByRecursion}
+use Rattle.std.specs.List.{flat_map, before_first, after_first, AllByRecursion}
 
 -- the character that ends a line
 abbrev pub line_end : ℕ
@@ -8,13 +8,11 @@ line_end = 10
 
 -- the characters before the first line end
 abbrev pub front : List ℕ → List ℕ
-front [] = []
-front (c ∷ cs) = cond (c == line_end) [] (c ∷ front cs)
+front xs = before_first (λ c. c == line_end) xs
 
 -- the characters after the first line end
 abbrev pub after : List ℕ → List ℕ
-after [] = []
-after (c ∷ cs) = cond (c == line_end) cs (after cs)
+after xs = after_first (λ c. c == line_end) xs
 
 -- a character at the front of the first line
 abbrev pub with_first : ℕ → List (List ℕ) → List (List ℕ)

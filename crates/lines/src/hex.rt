@@ -1,9 +1,10 @@
-ghost use Rattle.std.specs.Prelude.{◌≡◌, ◌+◌, ◌*◌, ◌<◌, ◌≤◌, length};
-ghost use Rattle.lines.specs.Hex.{is_hex, all_hex, nibble_of, bad_place, bytes_of, Decoded, Spelt};
+ghost use Rattle.std.specs.Prelude.{◌≡◌, ◌<◌, ◌≤◌, true, length};
+ghost use Rattle.std.specs.List.{list_all};
+ghost use Rattle.lines.specs.Hex.{is_hex, nibble_of, bad_place, bytes_of, Decoded, Spelt};
 
 use crate::fault::TextFault;
 use crate::reader::Line;
-use stops::{Fault, Stop};
+use stops::Stop;
 
 // A line has at most this many characters, its line end not counted.
 pub const LONGEST_LINE: usize = 246;
@@ -17,56 +18,48 @@ fn is_hex(c: u8) -> bool
     matches!(c, b'0'..=b'9' | b'A'..=b'F')
 }
 
-// What a digit stands for; 0 for any other character.
-fn nibble(c: u8) -> u8
-    ensures value { result ≡ nibble_of c }
+// What a digit stands for.
+fn nibble(digit: u8) -> u8
+    requires { is_hex digit ≡ true }
+    ensures value { result ≡ nibble_of digit }
     ensures small { result < 16 }
 {
-    match c {
-        b'0'..=b'9' => c - b'0',
-        b'A'..=b'F' => c - b'A' + 10,
-        _ => 0,
+    if digit <= b'9' {
+        digit - b'0'
+    } else {
+        digit - b'A' + 10
     }
 }
 
-// Whether every character is a digit. A loop with one way out is compiled to wide instructions.
+// Whether every character is a digit. A fold never stops early, and so is compiled to wide instructions.
 fn all_hex(line: &[u8]) -> bool
-    ensures { result ≡ all_hex line.now }
+    ensures { result ≡ list_all is_hex line.now }
 {
-    let mut all = true;
-    for c in line {
-        all &= is_hex(*c);
-    }
-    all
+    line.iter().fold(true, |all, c| all & is_hex(*c))
 }
 
 // The place, from 1, of the first character that is no digit.
 fn bad_place(line: &[u8]) -> Option<usize>
-    ensures { result ≡ bad_place 1 line.now }
+    ensures { result ≡ bad_place line.now }
 {
     if all_hex(line) {
         return None;
     }
-    for (i, c) in line.iter().enumerate() {
-        if !is_hex(*c) {
-            return Some(i + 1);
-        }
-    }
-    None
+    line.iter().position(|c| !is_hex(*c)).map(|i| i + 1)
 }
 
-// Writes the line's bytes to the buffer's front: two digits make a byte, the high one first.
-fn write_bytes(line: &[u8], buffer: &mut [u8; MOST_BYTES])
-    requires { length (bytes_of line.now) ≤ 123 }
-    ensures { Spelt line.now buffer.old buffer.new }
+// Writes the line's bytes to the buffer's front and answers how many they are: two digits make a byte, the high one first.
+fn write_bytes(line: &[u8], buffer: &mut [u8; MOST_BYTES]) -> usize
+    requires short { length line.now ≤ 246 }
+    requires digits { list_all is_hex line.now ≡ true }
+    ensures count { result ≡ length (bytes_of line.now) }
+    ensures spelt { Spelt line.now buffer.old buffer.new }
 {
-    let mut rest = line;
-    let mut at = 0;
-    while let [high, low, tail @ ..] = rest {
-        buffer[at] = nibble(*high) * 16 + nibble(*low);
-        at += 1;
-        rest = tail;
+    let (pairs, _) = line.as_chunks::<2>();
+    for (i, &[high, low]) in pairs.iter().enumerate() {
+        buffer[i] = nibble(high) * 16 + nibble(low);
     }
+    pairs.len()
 }
 
 impl Line<'_> {
@@ -78,21 +71,14 @@ impl Line<'_> {
         let line = self.number;
         let digits = self.part;
         if digits.len() > LONGEST_LINE {
-            return Err(TextFault {
-                found: Fault::at(Stop::TooLong, line, LONGEST_LINE + 1),
-            });
+            return Err(TextFault::at(Stop::TooLong, line, LONGEST_LINE + 1));
         }
         if let Some(place) = bad_place(digits) {
-            return Err(TextFault {
-                found: Fault::at(Stop::NotADigit, line, place),
-            });
+            return Err(TextFault::at(Stop::NotADigit, line, place));
         }
         if digits.len() % 2 != 0 {
-            return Err(TextFault {
-                found: Fault::at(Stop::OddDigits, line, digits.len()),
-            });
+            return Err(TextFault::at(Stop::OddDigits, line, digits.len()));
         }
-        write_bytes(digits, buffer);
-        Ok(digits.len() / 2)
+        Ok(write_bytes(digits, buffer))
     }
 }

@@ -12,33 +12,25 @@ use questions::{ask_book, ask_both};
 use std::io::{Read, Write};
 use sums::add_times;
 
-// What is done with a case's text.
+// What is done with a case's text. Where questions are asked of two books, the second begins at `second`.
 #[derive(Clone, Copy)]
 enum Case {
-    Questions,
+    Questions { second: Option<usize> },
     Times,
 }
 
 // Asks the questions of a case: of one book, or of two, where the second begins at `second`.
 fn ask(rt: &HostRuntime, text: &[u8], second: Option<usize>) -> anyhow::Result<()> {
-    match second {
-        Some(at) if at <= text.len() => {
-            let (book, other) = text.split_at(at);
-            ask_both(rt, book, other)
-        }
-        _ => ask_book(rt, text),
+    match second.and_then(|at| text.split_at_checked(at)) {
+        Some((book, other)) => ask_both(rt, book, other),
+        None => ask_book(rt, text),
     }
 }
 
 // Answers a case, and empties the text for the next one.
-fn answer(
-    rt: &HostRuntime,
-    case: Case,
-    second: Option<usize>,
-    text: &mut Vec<u8>,
-) -> anyhow::Result<()> {
+fn answer(rt: &HostRuntime, case: Case, text: &mut Vec<u8>) -> anyhow::Result<()> {
     match case {
-        Case::Questions => ask(rt, text.as_slice(), second)?,
+        Case::Questions { second } => ask(rt, text.as_slice(), second)?,
         Case::Times => add_times(rt, text.as_slice())?,
     }
     text.clear();
@@ -55,7 +47,7 @@ fn head(rt: &HostRuntime, name: &[u8]) -> anyhow::Result<()> {
 // The case that a line begins, if it begins one, and its name.
 fn begun(line: &[u8]) -> Option<(Case, &[u8])> {
     match line {
-        [b'?', b' ', name @ ..] => Some((Case::Questions, name)),
+        [b'?', b' ', name @ ..] => Some((Case::Questions { second: None }, name)),
         [b'#', b' ', name @ ..] => Some((Case::Times, name)),
         _ => None,
     }
@@ -64,22 +56,22 @@ fn begun(line: &[u8]) -> Option<(Case, &[u8])> {
 fn run(rt: &HostRuntime) -> anyhow::Result<()> {
     let mut table = Vec::new(rt.alloc());
     rt.stdin().read_to_end(&mut table)?;
-    let mut reader = Reader::new(table.as_slice());
     let mut text = Vec::new(rt.alloc());
     let mut case = None;
-    let mut second = None;
-    while let Some(line) = reader.next_line() {
+    for line in Reader::new(table.as_slice()) {
         if let Some((next, name)) = begun(line.part) {
             if let Some(ended) = case {
-                answer(rt, ended, second, &mut text)?;
+                answer(rt, ended, &mut text)?;
             }
             head(rt, name)?;
             case = Some(next);
-            second = None;
             continue;
         }
         match (case, line.part) {
-            (Some(Case::Questions), [b'+']) => second = Some(text.len()),
+            (Some(Case::Questions { .. }), [b'+']) => {
+                let second = Some(text.len());
+                case = Some(Case::Questions { second });
+            }
             (_, part) => {
                 text.extend_from_slice(part)?;
                 text.push(b'\n')?;
@@ -87,7 +79,7 @@ fn run(rt: &HostRuntime) -> anyhow::Result<()> {
         }
     }
     match case {
-        Some(ended) => answer(rt, ended, second, &mut text),
+        Some(ended) => answer(rt, ended, &mut text),
         None => Ok(()),
     }
 }

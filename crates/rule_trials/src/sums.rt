@@ -8,10 +8,8 @@ const MOST_NUMBERS: usize = 4;
 // The first numbers of a line, 0 where there are fewer.
 fn numbers(line: &str) -> anyhow::Result<[u32; MOST_NUMBERS]> {
     let mut found = [0; MOST_NUMBERS];
-    for (i, word) in line.split(' ').enumerate() {
-        if i < MOST_NUMBERS {
-            found[i] = word.parse::<u32>()?;
-        }
+    for (number, word) in found.iter_mut().zip(line.split(' ')) {
+        *number = word.parse::<u32>()?;
     }
     Ok(found)
 }

@@ -7,9 +7,16 @@ use lines::reader::Reader;
 use reports::report;
 use std::io::{Read, Write};
 
+// How a case's text ends.
+#[derive(Clone, Copy)]
+enum Ending {
+    LineEnd,
+    NoLineEnd,
+}
+
 // Prints the report's answer to a case's text, and empties the text for the next case.
-fn answer(rt: &HostRuntime, ended: bool, text: &mut Vec<u8>) -> anyhow::Result<()> {
-    if !ended {
+fn answer(rt: &HostRuntime, ending: Ending, text: &mut Vec<u8>) -> anyhow::Result<()> {
+    if let Ending::NoLineEnd = ending {
         let _ = text.pop();
     }
     let line = report(text.as_slice());
@@ -25,30 +32,36 @@ fn head(rt: &HostRuntime, name: &[u8]) -> anyhow::Result<()> {
     Ok(())
 }
 
+// Where a line begins a case: how its text ends, and its name.
+fn begun(line: &[u8]) -> Option<(Ending, &[u8])> {
+    match line {
+        [b'=', b' ', name @ ..] => Some((Ending::LineEnd, name)),
+        [b'-', b' ', name @ ..] => Some((Ending::NoLineEnd, name)),
+        _ => None,
+    }
+}
+
 fn run(rt: &HostRuntime) -> anyhow::Result<()> {
     let mut table = Vec::new(rt.alloc());
     rt.stdin().read_to_end(&mut table)?;
-    let mut reader = Reader::new(table.as_slice());
     let mut text = Vec::new(rt.alloc());
-    let mut begun = false;
-    let mut ended = true;
-    while let Some(line) = reader.next_line() {
-        match line.part {
-            [mark, b' ', name @ ..] if *mark == b'=' || *mark == b'-' => {
-                if begun {
-                    answer(rt, ended, &mut text)?;
-                }
-                head(rt, name)?;
-                begun = true;
-                ended = *mark == b'=';
+    let mut case = None;
+    for line in Reader::new(table.as_slice()) {
+        if let Some((next, name)) = begun(line.part) {
+            if let Some(ending) = case {
+                answer(rt, ending, &mut text)?;
             }
-            part => {
-                text.extend_from_slice(part)?;
-                text.push(b'\n')?;
-            }
+            head(rt, name)?;
+            case = Some(next);
+        } else {
+            text.extend_from_slice(line.part)?;
+            text.push(b'\n')?;
         }
     }
-    answer(rt, ended, &mut text)
+    match case {
+        Some(ending) => answer(rt, ending, &mut text),
+        None => Ok(()),
+    }
 }
 
 fn main(rt: HostRuntime) -> anyhow::Result<()> {

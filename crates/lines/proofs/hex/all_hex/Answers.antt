@@ -1,12 +1,18 @@
-use Rattle.std.proofs.Common.{◌+◌, ◌&&◌, drop, sym, ap, ◌∙◌}
-use Rattle.lines.specs.Hex.{all_hex}
-use Rattle.lines.proofs.Turns.{all_on, all_done}
+use Rattle.std.proofs.Common.{rules, tests, ◌≡◌, Bool, true, false, ◌&&◌, List, [], ◌∷◌, refl, ◌∙◌}
+use Rattle.std.specs.List.{fold, list_all}
+use Rattle.std.proofs.lemmas.Iterator.{YieldsList-from_slice}
+use Rattle.std.proofs.lemmas.Iterator.Consumers.{fold_from_yields_List}
+use Rattle.lines.specs.Hex.{is_hex}
 use Rattle.lines.proofs.hex.all_hex.Goals as goal
 
-pub loop-c-preserved : goal.loop-c-preserved
-loop-c-preserved c =
-    let left = all_hex (drop (c.loop-c.c-index + 1) c.args.line.now) in
-    ap (λ b. (c.loop-c.all && b) && left) c.is_hex-all.ensures ∙ sym (all_on c.loop-c.all _ _ c.loop-c-test.true) ∙ c.loop-c.invariant
+folded_all : {X : Type 0} (p : X → Bool) (all : Bool) (xs : List X) → fold (λ a x. a && p x) all xs ≡ (all && list_all p xs)
+folded_all p true [] = refl
+folded_all p false [] = refl
+folded_all p true (x ∷ xs) = folded_all p (p x) xs
+folded_all p false (x ∷ xs) = folded_all p false xs
 
 pub returns : goal.returns
-returns c = sym (all_done c.loop-c.all _ _ c.loop-c-test.false) ∙ c.loop-c.invariant
+returns c =
+    let line = c.args.line.now in
+    fold_from_yields_List _ (λ all x. all && is_hex x) true c.fold.result c.fold.ensures.ran (YieldsList-from_slice line c.iter.ensures.rest) (λ a x b q k. search (rules, tests))
+    ∙ folded_all is_hex true line

@@ -1,17 +1,29 @@
-use Rattle.std.proofs.Common.{sym, ◌∙◌}
-use Rattle.std.proofs.lemmas.List.{at_drop_all}
-use Rattle.lines.specs.Hex.{bad_place}
-use Rattle.lines.proofs.Turns.{place_bad, place_good, none_bad}
+use Rattle.std.proofs.Common.{rules, tests, ◌≡◌, ℕ, ◌+◌, Bool, true, not, List, [], ◌∷◌, None, position, sym, refl, ap, ◌∙◌, arith}
+use Rattle.std.specs.List.{list_all, position_from}
+use Rattle.std.specs.Option.{option_map}
+use Rattle.std.proofs.lemmas.Iterator.{YieldsList-from_slice}
+use Rattle.std.proofs.lemmas.Iterator.Search.{position_from_yields_List}
+use Rattle.std.proofs.lemmas.Iterator.Adapters.{position_from-zero}
+use Rattle.lines.specs.Hex.{is_hex}
 use Rattle.lines.proofs.hex.bad_place.Goals as goal
+
+-- a count that begins one later finds a place one later
+place_on : {X : Type 0} (p : X → Bool) (at : ℕ) (xs : List X) → option_map (λ i. i + 1) (position_from p at xs) ≡ position_from p (at + 1) xs
+place_on p at [] = refl
+place_on p at (x ∷ xs) = grind (arith, place_on p (at + 1) xs)
+
+-- where all are digits no place is bad
+none_bad : (at : ℕ) (xs : List ℕ) → list_all is_hex xs ≡ true → position_from (λ x. not (is_hex x)) at xs ≡ None
+none_bad at [] e = refl
+none_bad at (x ∷ xs) e = let more = none_bad (at + 1) xs in grind (arith, more)
 
 pub returns-then-all_hex : goal.returns-then-all_hex
 returns-then-all_hex c = sym (none_bad 1 c.args.line.now (sym c.if-all_hex.ensures))
 
-pub returns-then-not-is_hex : goal.returns-then-not-is_hex
-returns-then-not-is_hex c = sym (place_bad _ _ _ c.loop-i-test.true (sym c.if-not-is_hex.ensures)) ∙ c.loop-i.invariant
-
-pub loop-i-preserved : goal.loop-i-preserved
-loop-i-preserved c = sym (place_good _ _ _ c.loop-i-test.true (sym c.if-not-is_hex.ensures)) ∙ c.loop-i.invariant
-
 pub returns : goal.returns
-returns c = sym (at_drop_all (bad_place _) _ _ c.loop-i-test.false) ∙ c.loop-i.invariant
+returns c =
+    let line = c.args.line.now in
+    let found : c.position.result ≡ position (λ x. not (is_hex x)) line =
+    position_from_yields_List (λ x. not (is_hex x)) _ _ c.position.result c.position.ensures.ran (YieldsList-from_slice line c.iter.ensures.rest) (λ x b q k. search (rules, tests)) in
+    let mapped : c.map.result ≡ option_map (λ i. i + 1) c.position.result = search rules in
+    mapped ∙ ap (option_map (λ i. i + 1)) (found ∙ position_from-zero (λ x. not (is_hex x)) line) ∙ place_on (λ x. not (is_hex x)) 0 line

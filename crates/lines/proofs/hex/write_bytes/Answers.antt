@@ -1,17 +1,31 @@
-use Rattle.std.proofs.Common.{◌≡◌, ◌+◌, ◌*◌, ◌<◌, ◌≤◌, length, get_or, ap, ◌∙◌, arith, ltb-false, ltb-true}
-use Rattle.std.proofs.lemmas.List.{take_rest, length-set}
-use Rattle.lines.specs.Hex.{nibble_of}
-use Rattle.lines.proofs.Turns.{one_more, done, unrolled}
+use Rattle.std.proofs.Common.{◌≡◌, [], get_or, length, take, drop, map, ap, sym, ◌∙◌, arith}
+use Rattle.std.proofs.lemmas.List.{take_all, length-map}
+use Rattle.lines.specs.Hex.{is_hex, bytes_of}
+use Rattle.lines.proofs.Pairs.{byte_of, bytes_of_pairs, pairs_digits}
 use Rattle.lines.proofs.hex.write_bytes.Goals as goal
 
-pub loop-rest-preserved : goal.loop-rest-preserved
-loop-rest-preserved c =
-    let rest = c.loop-rest.rest.now in
-    let two : 2 ≤ length rest = omega (arith, ltb-false) in
-    let room : c.loop-rest.at < 123 = omega (arith, c.requires, c.loop-rest.invariant.reached, ap length (unrolled rest two)) in
-    let value : c.nibble.result * 16 + c.nibble-in-len2-up.result ≡ nibble_of (get_or rest 0 0) * 16 + nibble_of (get_or rest 1 0) =
-    omega (arith, c.nibble.ensures.value, c.nibble-in-len2-up.ensures.value) in
-    one_more c.loop-rest.invariant two room _ value _ (take_rest rest 2) (length-set c.loop-rest.buffer c.loop-rest.at _ ∙ c.loop-rest.invariant.long)
+pub nibble-requires : goal.nibble-requires
+nibble-requires c =
+    let both = pairs_digits c.args.line.now c.loop-i.i c.requires.digits (omega arith) in
+    ap (λ ps. is_hex (get_or (get_or ps c.loop-i.i []) 0 0)) c.as_chunks.ensures.front ∙ both.high
+
+pub nibble-requires-in-loop-i : goal.nibble-requires-in-loop-i
+nibble-requires-in-loop-i c =
+    let both = pairs_digits c.args.line.now c.loop-i.i c.requires.digits (omega arith) in
+    ap (λ ps. is_hex (get_or (get_or ps c.loop-i.i []) 1 0)) c.as_chunks.ensures.front ∙ both.low
 
 pub returns : goal.returns
-returns c = done c.loop-rest.invariant (omega (arith, ltb-true))
+returns c =
+    let line = c.args.line.now in
+    let pairs = c.as_chunks.result.0.now in
+    let buffer = c.loop-i.buffer in
+    let bytes : bytes_of line ≡ map byte_of pairs = bytes_of_pairs line ∙ ap (map byte_of) (sym c.as_chunks.ensures.front) in
+    let count : length pairs ≡ length (bytes_of line) = omega (arith, ap length bytes, length-map pairs byte_of) in
+    let end : c.loop-i.i ≡ length (bytes_of line) = omega (arith, count) in
+    record {
+      count = count;
+      spelt = record {
+        front = ap (λ k. take k buffer) (sym end) ∙ c.loop-i.invariant.front ∙ ap (map byte_of) (take_all c.loop-i.i pairs (omega arith)) ∙ sym bytes;
+        rest = ap (λ k. drop k buffer) (sym end) ∙ c.loop-i.invariant.back ∙ ap (λ k. drop k c.args.buffer.now) end;
+      };
+    }

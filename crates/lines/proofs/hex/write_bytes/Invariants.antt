@@ -1,9 +1,9 @@
-use Rattle.std.proofs.Common.{length}
-use Rattle.lines.proofs.Turns.{Sofar}
+use Rattle.std.proofs.Common.{◌≡◌, take, drop, map}
+use Rattle.lines.proofs.Pairs.{byte_of}
 use Rattle.lines.proofs.hex.write_bytes.Given as goal
 
-abbrev pub invariant-loop-rest : goal.invariant-loop-rest
-invariant-loop-rest l = Sofar l.line l.initial.buffer l.at l.rest l.buffer
-
-abbrev pub decreases-loop-rest : goal.decreases-loop-rest
-decreases-loop-rest l = length l.rest
+abbrev pub invariant-loop-i : goal.invariant-loop-i
+invariant-loop-i l = record {
+  front : take l.i l.buffer ≡ map byte_of (take l.i l.pairs);
+  back : drop l.i l.buffer ≡ drop l.i l.initial.buffer;
+}

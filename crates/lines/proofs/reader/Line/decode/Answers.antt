@@ -1,28 +1,28 @@
-use Rattle.std.proofs.Common.{◌≡◌, ◌/◌, length, take, drop, None, sym, refl, ap, ◌∙◌, arith}
-use Rattle.std.specs.List.{flat_map}
+use Rattle.std.proofs.Common.{◌≡◌, ℕ, ◌+◌, true, not, List, [], ◌∷◌, take, None, refl, ap, sym, ◌∙◌, arith}
+use Rattle.std.specs.List.{flat_map, list_all, position_from}
 use Rattle.std.proofs.lemmas.Bool.Decides.{nat_tests}
-use Rattle.lines.specs.Hex.{bad_place, bytes_of, digits}
+use Rattle.lines.specs.Hex.{is_hex, bad_place, bytes_of, digits}
 use Rattle.lines.proofs.Digits.{bytes_half, digits_bytes}
-use Rattle.lines.proofs.Turns.{half}
 use Rattle.lines.proofs.reader.Line.decode.Goals as goal
 
-pub returns-then-digits-gt-LONGEST_LINE : goal.returns-then-digits-gt-LONGEST_LINE
-returns-then-digits-gt-LONGEST_LINE c = (grind (arith, nat_tests), refl)
+-- where no place is bad all are digits
+all_good : (at : ℕ) (xs : List ℕ) → position_from (λ x. not (is_hex x)) at xs ≡ None → list_all is_hex xs ≡ true
+all_good at [] e = refl
+all_good at (x ∷ xs) e = let more = all_good (at + 1) xs in grind (arith, more)
 
-pub write_bytes-requires : goal.write_bytes-requires
-write_bytes-requires c = omega (arith, half c.args.self.part.now)
+pub write_bytes-requires-clause-digits : goal.write_bytes-requires-clause-digits
+write_bytes-requires-clause-digits c = all_good 1 c.args.self.part.now (sym c.bad_place.ensures ∙ c.in_default.is)
 
 pub returns : goal.returns
 returns c =
     let line = c.args.self.part.now in
-    let new = c.write_bytes.new.buffer in
-    let old = c.args.buffer.now in
-    let good : bad_place 1 line ≡ None = sym c.bad_place.ensures ∙ c.in_default.is in
-    let long : length (bytes_of line) ≡ length line / 2 = bytes_half line in
-    let front : take (length line / 2) new ≡ bytes_of line = ap (λ n. take n new) (sym long) ∙ c.write_bytes.ensures.front in
+    let good : bad_place line ≡ None = sym c.bad_place.ensures ∙ c.in_default.is in
+    let count = c.write_bytes.ensures.count in
+    let spelt = c.write_bytes.ensures.spelt in
+    let front : take c.write_bytes.result c.write_bytes.new.buffer ≡ bytes_of line = ap (λ n. take n c.write_bytes.new.buffer) count ∙ spelt.front in
     record {
       bytes = simp (good, front) (grind (arith, nat_tests));
-      within = omega arith;
-      rest = ap (λ n. drop n new) (sym long) ∙ c.write_bytes.ensures.rest ∙ ap (λ n. drop n old) long;
-      again = ap (flat_map digits) front ∙ digits_bytes 1 line good c.if-digits-ne0.false;
+      within = omega (arith, count, bytes_half line);
+      rest = simp count spelt.rest;
+      again = ap (flat_map digits) front ∙ digits_bytes line (all_good 1 line good) c.if-digits-ne0.false;
     }
