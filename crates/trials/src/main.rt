@@ -1,6 +1,6 @@
 // Reads a table of cases from standard input and prints what the report answers to each.
 // A line `= NAME` begins a case, whose text is the lines below it, each with its line end; a line `- NAME` is the same,
-// but the text's last line end is left out.
+// but the text's last line end is left out. A table that begins no case is one text.
 #![tactic(auto)]
 
 use lines::reader::Reader;
@@ -58,10 +58,7 @@ fn run(rt: &HostRuntime) -> anyhow::Result<()> {
             text.push(b'\n')?;
         }
     }
-    match case {
-        Some(ending) => answer(rt, ending, &mut text),
-        None => Ok(()),
-    }
+    answer(rt, case.unwrap_or(Ending::LineEnd), &mut text)
 }
 
 fn main(rt: HostRuntime) -> anyhow::Result<()> {
