@@ -4,6 +4,7 @@ use entries::memory::Closing;
 
 pub mod calls;
 mod checks;
+pub mod in_memory;
 mod parts;
 mod takes;
 

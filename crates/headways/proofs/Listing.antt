@@ -28,7 +28,7 @@ is_some_value (Some x) e = (x, refl)
 
 module _ (text : List ℕ) (book : Book) (memory : Memory) (h : HoldsLines text (book_of book memory)) where
   count : length (held book memory).movements ≡ count_of book
-  count = length_movements book.movements book.runs_a book.runs_b 0 memory (omega (arith, book.few, memory.long))
+  count = length_movements book.movements book.runs_a book.runs_b memory (omega (arith, book.few, memory.long))
 
   -- what is found of a pair is what a line lists
   found_lists : (a b : ℕ) (l : Listed) → pair_at (held book memory) a b ≡ Some l → Lists h.contents a b

@@ -1,23 +1,23 @@
 -- In a book that was read from lines, two movements clash by sections exactly when they share a section. Assumes nothing.
-use Rattle.std.proofs.Common.{◌≡◌, ℕ, ◌+◌, ◌-◌, ◌%◌, ◌<◌, ◌≤◌, Bool, true, false, cond, ◌&&◌, ◌||◌, eqb, leb, ◌⊎◌, List, [], ◌∷◌, length, get_or, drop, Ok, Err, Result, sym, refl, ap, ◌∙◌, inl, inr, ⊎_elim, arith}
+use Rattle.std.proofs.Common.{◌≡◌, ℕ, ◌+◌, ◌-◌, ◌%◌, ◌<◌, ◌≤◌, Bool, true, false, cond, ◌&&◌, eqb, leb, ◌⊎◌, List, [], ◌∷◌, length, drop, Ok, Err, Result, refl, ap, ◌∙◌, inl, inr, ⊎_elim, arith}
 use Rattle.std.specs.List.{AllByRecursion, flat_map}
-use Rattle.std.proofs.lemmas.Bool.{eqb-true, eq-eqb, and_parts, leb-true, cond-true}
-use Rattle.std.proofs.ByRecursion.{All-get_or, All-append}
+use Rattle.std.proofs.lemmas.Bool.{and_parts, leb-true}
+use Rattle.std.proofs.ByRecursion.{All-append}
 use Rattle.std.proofs.lemmas.List.{length-drop}
-use Rattle.traces.specs.Clashes.{within, meet}
+use Rattle.traces.specs.Clashes.{within}
 use Rattle.lines.specs.declared.fault.TextFault.{TextFault}
 use Rattle.lines.specs.Hex.{line_bytes}
 use Rattle.lines.specs.Texts.{lines_of}
 use Rattle.frames.specs.declared.fault.FrameFault.{FrameFault}
 use Rattle.frames.specs.Kinds.{movement_length}
 use Rattle.frames.specs.Frames.{Content, movement, pair, opening, order_a, order_b, closing, after_bytes, by_kind}
-use Rattle.entries.specs.declared.memory.Step.{Step}
-use Rattle.entries.specs.Entries.{Movement, movement_at}
+use Rattle.entries.specs.Entries.{Movement}
 use Rattle.entries.specs.Giving.{steps_of}
 use Rattle.books.specs.Says.{movement_in, ReadAs}
 use Rattle.entries.proofs.Numbered.{length_movements}
-use Rattle.headways.specs.Sections.{sections_of}
 use Rattle.headways.specs.Rules.{count_of, held, sharing, ReadMovementsHaveSteps, SharingIsClashing}
+use Rattle.headways.specs.Related.{shares_itself}
+use Rattle.headways.proofs.Related.{related_is_clashing}
 
 abbrev HasStep : Movement → Type 0
 HasStep m = 0 < length m.steps
@@ -91,28 +91,9 @@ all_have_steps k (l ∷ ls) (c ∷ cs) r =
 pub read_movements_have_steps : ReadMovementsHaveSteps
 read_movements_have_steps text b h = rw h.says.gives.movements (all_have_steps 1 (lines_of text) h.contents h.read)
 
--- the sections of a movement that has a step meet themselves
-meets_itself : (p : List Step) → 0 < length p → meet (sections_of p) (sections_of p) ≡ true
-meets_itself [] h = absurd (omega arith)
-meets_itself (x ∷ p) h = rw (eq-eqb x.section x.section refl) refl
-
--- a test for the same movement adds nothing where the other test passes it
-same_test : (first second same test : Bool) → (first ≡ true → same ≡ true → test ≡ true) → (first && (second && (same || test))) ≡ (first && (second && test))
-same_test true true true test h = sym (h refl refl)
-same_test true true false test h = refl
-same_test true false same test h = refl
-same_test false second same test h = refl
-
 pub sharing_is_clashing : SharingIsClashing
 sharing_is_clashing book memory steps a b =
-    same_test (within (count_of book) a) (within (count_of book) b) (eqb a b) (sharing (held book memory) a b)
-    (λ inside same.
-    let none : Movement = record { priority = 0; steps = [] } in
-    let ms : List Movement = (held book memory).movements in
-    let count : length ms ≡ count_of book = length_movements book.movements book.runs_a book.runs_b a memory (omega (arith, book.few, memory.long)) in
-    let known : within (length ms) a ≡ true = ap (λ k. within k a) count ∙ inside in
-    let found : movement_at (held book memory) a ≡ get_or ms (a - 1) none = cond-true (within (length ms) a) _ _ known in
-    let bounds = and_parts (leb 1 a) (leb a (length ms)) known in
-    let some : 0 < length (movement_at (held book memory) a).steps =
-    rw found (All-get_or HasStep ms (a - 1) none (omega (arith, leb-true 1 a bounds.0, leb-true a (length ms) bounds.1)) steps) in
-    rw (← eqb-true a b same) (meets_itself (movement_at (held book memory) a).steps some))
+    let count : length (held book memory).movements ≡ count_of book =
+    length_movements book.movements book.runs_a book.runs_b memory (omega (arith, book.few, memory.long)) in
+    related_is_clashing (count_of book) (sharing (held book memory)) a b
+    (λ inside. shares_itself (held book memory) steps a (ap (λ k. within k a) count ∙ inside))

@@ -43,7 +43,7 @@ pub fn report(text: &[u8]) -> Answer
     let mut memory = Memory::new();
     match read_book(text, &mut memory) {
         Ok(book) => {
-            let _rule = book_rule::<Ranked>(&book, &memory);
+            let _rule = book_rule::<Ranked>(book.in_memory(&memory));
             Answer::Taken(book.lines())
         }
         Err(refused) => {
