@@ -1,7 +1,7 @@
 -- What a book means as a rule, with the memory that is lent to it. Assumes nothing.
 use Rattle.std.specs.Prelude.{◌≡◌, ℕ, ◌<◌, Bool, true, ◌&&◌, ◌⊎◌, ◌↔◌, List, length, is_some, Some, None, Option}
 use Rattle.std.specs.List.{AllByRecursion}
-use Rattle.traces.specs.Clashes.{within, clash_by, either_way, meet}
+use Rattle.traces.specs.Clashes.{Lawful, within, clash_by, either_way, meet}
 use Rattle.frames.specs.Frames.{Content, pair}
 use Rattle.entries.specs.declared.memory.Listed.{Listed}
 use Rattle.entries.specs.declared.memory.Memory.{Memory}
@@ -51,6 +51,13 @@ listed_gap origin made None = origin
 
 abbrev pub table_gap : {T : Type 0} → T → (ℕ → ℕ → T) → Entries → ℕ → ℕ → T
 table_gap origin made e a b = listed_gap origin made (pair_at e a b)
+
+-- whatever the memory holds, both keep the laws
+abbrev pub SectionsRuleIsLawful : Type 0
+SectionsRuleIsLawful = (book : Book) (memory : Memory) → Lawful (count_of book) (sections_rule book memory)
+
+abbrev pub TableRuleIsLawful : Type 0
+TableRuleIsLawful = (book : Book) (memory : Memory) → Lawful (count_of book) (table_rule book memory)
 
 -- a line lists the ordered pair (a, b)
 abbrev pub Lists : List Content → ℕ → ℕ → Type 0

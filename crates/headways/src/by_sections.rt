@@ -1,8 +1,5 @@
-ghost use Rattle.traces.proofs.Meeting.{meeting_is_mutual};
-ghost use Rattle.entries.specs.Entries.{movement_at};
-ghost use Rattle.headways.specs.Sections.{sections_of};
 ghost use Rattle.headways.specs.Rules.{sharing, sections_listed, HasSteps};
-ghost use Rattle.headways.specs.Related.{shares_itself};
+ghost use Rattle.headways.specs.Related.{sharing_is_mutual, shares_itself};
 
 use crate::basis::Basis;
 use crate::rule::RuleBy;
@@ -25,7 +22,7 @@ impl Basis for Sections {
 
     ghost complete = { HasSteps };
 
-    ghost symmetric = { λ e a b. meeting_is_mutual (sections_of (movement_at e a).steps) (sections_of (movement_at e b).steps) };
+    ghost symmetric = { sharing_is_mutual };
 
     ghost itself = { shares_itself };
 

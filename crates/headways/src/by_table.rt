@@ -1,8 +1,7 @@
 ghost use Rattle.traces.specs.Clashes.{either_way};
-ghost use Rattle.traces.proofs.Lawfuls.{either_way_is_mutual};
 ghost use Rattle.entries.specs.Entries.{pair_at};
 ghost use Rattle.headways.specs.Rules.{listing, ListsThemselves};
-ghost use Rattle.headways.specs.Related.{lists_itself};
+ghost use Rattle.headways.specs.Related.{listing_is_mutual, lists_itself};
 
 use crate::basis::Basis;
 use crate::rule::RuleBy;
@@ -23,7 +22,7 @@ impl Basis for Table {
 
     ghost complete = { ListsThemselves };
 
-    ghost symmetric = { λ e. either_way_is_mutual (listing e) };
+    ghost symmetric = { listing_is_mutual };
 
     ghost itself = { lists_itself };
 
