@@ -1,19 +1,11 @@
-use Rattle.std.proofs.Common.{◌<◌, get_or, sym, ◌∙◌, rules}
+use Rattle.std.proofs.Common.{false, get_or, ◌∙◌, rules}
+use Rattle.std.proofs.lemmas.Iterator.{YieldsList-from_slice}
+use Rattle.std.proofs.lemmas.Iterator.Search.{any_from_yields_List}
 use Rattle.entries.specs.declared.memory.Step.{Step}
-use Rattle.headways.proofs.Passes.{meets_here, meets_later, meets_none}
+use Rattle.headways.proofs.Passes.{meet_by_marks}
 use Rattle.headways.proofs.steps.share_section.Goals as goal
 
-pub returns-then-marked-step : goal.returns-then-marked-step
-returns-then-marked-step c =
-    let d : Step = record { section = 0; set = 0; release = 0 } in
-    let inside : (get_or c.args.second.now c.loop-step.step-index d).section < 256 = search rules in
-    sym (meets_here c.args.first.now c.args.second.now c.loop-step.step-index d c.loop-step-test.true (sym (c.marked_sections-marked.ensures _ inside) ∙ c.if-marked-step.true)) ∙ c.loop-step.invariant
-
-pub loop-step-preserved : goal.loop-step-preserved
-loop-step-preserved c =
-    let d : Step = record { section = 0; set = 0; release = 0 } in
-    let inside : (get_or c.args.second.now c.loop-step.step-index d).section < 256 = search rules in
-    sym (meets_later c.args.first.now c.args.second.now c.loop-step.step-index d c.loop-step-test.true (sym (c.marked_sections-marked.ensures _ inside) ∙ c.if-marked-step.false)) ∙ c.loop-step.invariant
-
 pub returns : goal.returns
-returns c = sym (meets_none c.args.first.now c.args.second.now c.loop-step.step-index c.loop-step-test.false) ∙ c.loop-step.invariant
+returns c =
+    any_from_yields_List (λ (x : Step). get_or c.marked_sections-marked.result x.section false) _ _ _ c.any.ensures.ran (YieldsList-from_slice c.args.second.now cc) (λ x b q k. search rules)
+    ∙ meet_by_marks _ c.marked_sections-marked.result c.marked_sections-marked.ensures c.args.second.now
