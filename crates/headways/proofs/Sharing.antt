@@ -11,16 +11,12 @@ use Rattle.lines.specs.Texts.{lines_of}
 use Rattle.frames.specs.declared.fault.FrameFault.{FrameFault}
 use Rattle.frames.specs.Kinds.{movement_length}
 use Rattle.frames.specs.Frames.{Content, movement, pair, opening, order_a, order_b, closing, after_bytes, by_kind}
-use Rattle.entries.specs.Entries.{Movement}
 use Rattle.entries.specs.Giving.{steps_of}
 use Rattle.books.specs.Says.{movement_in, ReadAs}
 use Rattle.entries.proofs.Numbered.{length_movements}
-use Rattle.headways.specs.Rules.{count_of, held, sharing, ReadMovementsHaveSteps, SharingIsClashing}
+use Rattle.headways.specs.Rules.{count_of, held, sharing, HasStep, ReadMovementsHaveSteps, SharingIsClashing}
 use Rattle.headways.specs.Related.{shares_itself}
 use Rattle.headways.proofs.Related.{related_is_clashing}
-
-abbrev HasStep : Movement → Type 0
-HasStep m = 0 < length m.steps
 
 -- five bytes and more make a step
 some_step : (s : List ℕ) → 5 ≤ length s → 0 < length (steps_of s)

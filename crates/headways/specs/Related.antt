@@ -6,10 +6,10 @@ use Rattle.traces.specs.Clashes.{within, either_way, meet}
 use Rattle.traces.proofs.Lawfuls.{either_way_is_mutual}
 use Rattle.traces.proofs.Meeting.{meeting_is_mutual}
 use Rattle.entries.specs.declared.memory.Step.{Step}
-use Rattle.entries.specs.Entries.{Movement, Entries, movement_at}
+use Rattle.entries.specs.Entries.{Entries, movement_at}
 use Rattle.entries.proofs.Numbered.{movement_has}
 use Rattle.headways.specs.Sections.{sections_of}
-use Rattle.headways.specs.Rules.{sharing, listing, HasSteps, ListsThemselves}
+use Rattle.headways.specs.Rules.{sharing, listing, HasStep, HasSteps, ListsThemselves}
 
 -- whether two movements share a section, or are listed one way or the other, does not depend on their order
 pub sharing_is_mutual : (e : Entries) (a b : ℕ) → sharing e a b ≡ sharing e b a
@@ -25,7 +25,7 @@ meets_itself (x ∷ p) h = rw (eq-eqb x.section x.section refl) refl
 
 -- by sections, a movement that has a step is related to itself
 pub shares_itself : (e : Entries) → HasSteps e → (a : ℕ) → within (length e.movements) a ≡ true → sharing e a a ≡ true
-shares_itself e steps a known = meets_itself (movement_at e a).steps (movement_has (λ (m : Movement). 0 < length m.steps) e steps a known)
+shares_itself e steps a known = meets_itself (movement_at e a).steps (omega (arith, movement_has HasStep e steps a known))
 
 -- by table, a movement that is listed with itself is
 pub lists_itself : (e : Entries) → ListsThemselves e → (a : ℕ) → within (length e.movements) a ≡ true → either_way (listing e) a a ≡ true

@@ -74,9 +74,12 @@ pub record TableOfLines (cs : List Content) (book : Book) (memory : Memory) : Ty
 abbrev pub TableIsOfItsLines : Type 0
 TableIsOfItsLines = (text : List ℕ) (book : Book) (memory : Memory) (h : HoldsLines text (book_of book memory)) → TableOfLines h.contents book memory
 
--- every movement has a step
+-- a movement has a step, and every movement has one
+abbrev pub HasStep : Movement → Type 0
+HasStep m = 0 < length m.steps
+
 abbrev pub HasSteps : Entries → Type 0
-HasSteps e = AllByRecursion (λ (m : Movement). 0 < length m.steps) e.movements
+HasSteps e = AllByRecursion HasStep e.movements
 
 -- each movement is listed with itself
 abbrev pub ListsThemselves : Entries → Type 0

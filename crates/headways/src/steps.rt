@@ -23,7 +23,12 @@ pub fn share_section(first: &[Step], second: &[Step]) -> bool
     ensures { result ≡ meet (sections_of first.now) (sections_of second.now) }
 {
     let marked = marked_sections(first);
-    second.iter().any(|step| marked[step.section as usize])
+    for step in second {
+        if marked[step.section as usize] {
+            return true;
+        }
+    }
+    false
 }
 
 // From a run's start, the seconds until one of its movement's steps is released.
