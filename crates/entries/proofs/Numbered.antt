@@ -1,13 +1,12 @@
--- How many movements a book with its memory has, and what the one of a number has. Assumes nothing.
-use Rattle.std.proofs.Common.{◌≡◌, ℕ, ◌-◌, ◌≤◌, min, true, List, [], length, get_or, take, sym, ap, ◌∙◌, ⊎_elim, arith}
+-- What a book holds of one movement. Assumes nothing.
+use Rattle.std.proofs.Common.{◌≡◌, ℕ, ◌-◌, min, true, List, [], length, get_or, take, sym, ap, ◌∙◌, ⊎_elim, arith}
 use Rattle.std.specs.List.{AllByRecursion}
 use Rattle.std.proofs.ByRecursion.{All-get_or}
-use Rattle.std.proofs.lemmas.List.{length-map, length-take-le, take_all}
+use Rattle.std.proofs.lemmas.List.{take_all}
 use Rattle.std.proofs.lemmas.Bool.{cases_lt, cond-true}
 use Rattle.std.proofs.lemmas.Bool.Decides.{nat_tests}
 use Rattle.traces.specs.Clashes.{within}
-use Rattle.entries.specs.declared.memory.Memory.{Memory}
-use Rattle.entries.specs.Entries.{Movement, Entries, movement_at, movement_of, entries_of}
+use Rattle.entries.specs.Entries.{Movement, Entries, movement_at}
 
 -- a part that is cut at the length of its list
 pub take_cut : {X : Type 0} (n long : ℕ) (xs : List X) → length xs ≡ long → take (min n long) xs ≡ take n xs
@@ -16,9 +15,6 @@ take_cut n long xs e =
     (λ less. ap (λ (k : ℕ). take k xs) (omega arith))
     (λ more. let k : min n long ≡ long = omega arith in rw k (take_all long xs (omega arith) ∙ sym (take_all n xs (omega arith))))
     (cases_lt n long)
-
-pub length_movements : (n a b : ℕ) (memory : Memory) → n ≤ length memory.routes → length (entries_of n a b memory).movements ≡ n
-length_movements n a b memory few = length-map (take n memory.routes) movement_of ∙ length-take-le n memory.routes few
 
 -- what all movements have, the one of a number has
 pub movement_has : (P : Movement → Type 0) (e : Entries) → AllByRecursion P e.movements → (m : ℕ) → within (length e.movements) m ≡ true → P (movement_at e m)

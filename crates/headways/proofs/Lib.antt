@@ -2,5 +2,4 @@ pub mod Gaps
 pub mod Laws
 pub mod Listing
 pub mod Passes
-pub mod Related
 pub mod Sharing

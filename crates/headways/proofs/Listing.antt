@@ -2,13 +2,13 @@
 use Rattle.std.proofs.Common.{◌≡◌, ℕ, Bool, true, false, cond, ◌&&◌, ◌⊎◌, List, length, is_some, Some, None, Option, sym, refl, ap, ◌∙◌, inl, inr, ⊎_elim, arith}
 use Rattle.std.proofs.lemmas.Bool.{false≢true, cond-true}
 use Rattle.std.proofs.lemmas.Bool.Decides.{nat_tests}
+use Rattle.std.proofs.lemmas.Grind.{common_steps}
 use Rattle.traces.specs.Clashes.{within}
 use Rattle.frames.specs.Frames.{pair}
 use Rattle.entries.specs.declared.memory.Listed.{Listed}
 use Rattle.entries.specs.declared.memory.Memory.{Memory}
 use Rattle.entries.specs.Entries.{listed, pair_at}
 use Rattle.entries.specs.Giving.{listed_of}
-use Rattle.entries.proofs.Numbered.{length_movements}
 use Rattle.books.specs.declared.state.Book.{Book}
 use Rattle.books.specs.Held.{book_of}
 use Rattle.books.specs.Says.{Among, HoldsLines}
@@ -29,7 +29,7 @@ is_some_value (Some x) e = (x, refl)
 
 module _ (text : List ℕ) (book : Book) (memory : Memory) (h : HoldsLines text (book_of book memory)) where
   count : length (held book memory).movements ≡ count_of book
-  count = length_movements book.movements book.runs_a book.runs_b memory (omega (arith, book.few, memory.long))
+  count = grind (arith, common_steps, book.few, memory.long)
 
   -- what is found of a pair is what a line lists
   found_lists : (a b : ℕ) (l : Listed) → pair_at (held book memory) a b ≡ Some l → Lists h.contents a b

@@ -3,6 +3,7 @@ use Rattle.std.proofs.Common.{subst, ◌≡◌, ℕ, ◌+◌, ◌<◌, ◌≤◌
 use Rattle.std.specs.Prelude.{IfOk}
 use Rattle.std.specs.List.{AllByRecursion, flat_map}
 use Rattle.std.proofs.lemmas.Bool.Decides.{nat_tests}
+use Rattle.std.proofs.lemmas.Grind.{common_steps}
 use Rattle.std.proofs.ByRecursion.{All-append}
 use Rattle.std.proofs.lemmas.List.{length-drop}
 use Rattle.traces.specs.Clashes.{within}
@@ -14,10 +15,8 @@ use Rattle.frames.specs.Kinds.{movement_length}
 use Rattle.frames.specs.Frames.{Content, after_bytes, by_kind}
 use Rattle.entries.specs.Giving.{steps_of}
 use Rattle.books.specs.Says.{movement_in, ReadAs}
-use Rattle.entries.proofs.Numbered.{length_movements}
 use Rattle.headways.specs.Rules.{count_of, held, sharing, HasStep, ReadMovementsHaveSteps, SharingIsClashing}
 use Rattle.headways.specs.Related.{shares_itself}
-use Rattle.headways.proofs.Related.{related_is_clashing}
 
 -- five bytes and more make a step
 some_step : (s : List ℕ) → 5 ≤ length s → 0 < length (steps_of s)
@@ -70,7 +69,6 @@ read_movements_have_steps text b h = rw h.says.gives.movements (all_have_steps 1
 
 pub sharing_is_clashing : SharingIsClashing
 sharing_is_clashing book memory steps a b =
-    let count : length (held book memory).movements ≡ count_of book =
-    length_movements book.movements book.runs_a book.runs_b memory (omega (arith, book.few, memory.long)) in
-    related_is_clashing (count_of book) (sharing (held book memory)) a b
-    (λ inside. shares_itself (held book memory) steps a (ap (λ k. within k a) count ∙ inside))
+    let count : length (held book memory).movements ≡ count_of book = grind (arith, common_steps, book.few, memory.long) in
+    let itself : within (count_of book) a ≡ true → sharing (held book memory) a a ≡ true = λ inside. shares_itself (held book memory) steps a (ap (λ k. within k a) count ∙ inside) in
+    grind (arith, nat_tests, itself)
