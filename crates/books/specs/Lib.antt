@@ -3,3 +3,4 @@ pub mod Adding
 pub mod Taking
 pub mod TextBook
 pub mod Says
+pub mod InMemory

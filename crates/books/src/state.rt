@@ -5,6 +5,7 @@ use frames::kind::Kind;
 
 pub mod calls;
 mod checks;
+pub mod in_memory;
 mod parts;
 mod takes;
 

@@ -1,6 +1,7 @@
 -- The gap by sections is the greatest difference over the shared sections. Assumes nothing.
-use Rattle.std.proofs.Common.{◌≡◌, ℕ, ◌+◌, ◌-◌, ◌≤◌, max, cond, eqb, ◌⊎◌, List, [], ◌∷◌, sym, refl, ap, ◌∙◌, inl, inr, ⊎_elim, arith}
+use Rattle.std.proofs.Common.{◌≡◌, ℕ, ◌+◌, ◌-◌, ◌≤◌, max, cond, eqb, ◌⊎◌, List, [], ◌∷◌, refl, ap, ◌∙◌, inl, inr, ⊎_elim, arith}
 use Rattle.std.proofs.lemmas.Bool.{cases_lt, cases_eq, eq-eqb, ne_eqb, cond-true, cond-false}
+use Rattle.std.proofs.lemmas.Bool.Decides.{nat_tests}
 use Rattle.traces.specs.Clashes.{In}
 use Rattle.entries.specs.declared.memory.Step.{Step}
 use Rattle.headways.specs.Sections.{release_of, released_on, section_gap, SectionGapIsGreatest}
@@ -8,8 +9,8 @@ use Rattle.headways.specs.Sections.{release_of, released_on, section_gap, Sectio
 -- no step over the section is released later
 released_least : (p : List Step) (s : ℕ) (x : Step) → In x p → x.section ≡ s → release_of x ≤ released_on p s
 released_least [] s x i e = absurd i
-released_least (y ∷ p) s x (inl is) e = rw (eq-eqb y.section s (sym (ap (λ (z : Step). z.section) is) ∙ e)) (let k : release_of x ≡ release_of y = ap release_of is in omega arith)
-released_least (y ∷ p) s x (inr i) e = let k = released_least p s x i e in omega (arith, k)
+released_least (y ∷ p) s x (inl is) e = grind (arith, nat_tests, e, ap (λ (z : Step). z.section) is, ap release_of is)
+released_least (y ∷ p) s x (inr i) e = omega (arith, released_least p s x i e)
 
 -- the greater of two numbers is reached where each is reached or 0
 greater_reached : (R : ℕ → Type 0) (v g : ℕ) → (v ≡ 0) ⊎ R v → (g ≡ 0) ⊎ R g → (max v g ≡ 0) ⊎ R (max v g)
@@ -37,10 +38,8 @@ released_reached (y ∷ p) s =
 
 gap_least : (p q : List Step) (x y : Step) → In x p → In y q → x.section ≡ y.section → release_of x ≤ section_gap p q + y.set
 gap_least p [] x y i k e = absurd k
-gap_least p (z ∷ q) x y i (inl is) e =
-    let r = released_least p z.section x i (e ∙ ap (λ (w : Step). w.section) is) in
-    let same : y.set ≡ z.set = ap (λ (w : Step). w.set) is in omega (arith, r)
-gap_least p (z ∷ q) x y i (inr k) e = let r = gap_least p q x y i k e in omega (arith, r)
+gap_least p (z ∷ q) x y i (inl is) e = omega (arith, released_least p z.section x i (e ∙ ap (λ (w : Step). w.section) is), ap (λ (w : Step). w.set) is)
+gap_least p (z ∷ q) x y i (inr k) e = omega (arith, gap_least p q x y i k e)
 
 -- a difference is that of two steps on one section
 Reached : List Step → List Step → ℕ → Type 0

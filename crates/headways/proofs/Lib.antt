@@ -1,4 +1,5 @@
 pub mod Gaps
+pub mod Laws
 pub mod Listing
 pub mod Passes
 pub mod Sharing

@@ -1,26 +1,22 @@
 -- In a book that was read from lines, two movements clash by sections exactly when they share a section. Assumes nothing.
-use Rattle.std.proofs.Common.{◌≡◌, ℕ, ◌+◌, ◌-◌, ◌%◌, ◌<◌, ◌≤◌, Bool, true, false, cond, ◌&&◌, ◌||◌, eqb, leb, ◌⊎◌, List, [], ◌∷◌, length, get_or, drop, Ok, Err, Result, sym, refl, ap, ◌∙◌, inl, inr, ⊎_elim, arith}
+use Rattle.std.proofs.Common.{subst, ◌≡◌, ℕ, ◌+◌, ◌<◌, ◌≤◌, Bool, true, false, cond, eqb, List, [], ◌∷◌, length, drop, Ok, Err, Result, refl, ap, ◌∙◌, arith}
+use Rattle.std.specs.Prelude.{IfOk}
 use Rattle.std.specs.List.{AllByRecursion, flat_map}
-use Rattle.std.proofs.lemmas.Bool.{eqb-true, eq-eqb, and_parts, leb-true, cond-true}
-use Rattle.std.proofs.ByRecursion.{All-get_or, All-append}
+use Rattle.std.proofs.lemmas.Bool.Decides.{nat_tests}
+use Rattle.std.proofs.lemmas.Grind.{common_steps}
+use Rattle.std.proofs.ByRecursion.{All-append}
 use Rattle.std.proofs.lemmas.List.{length-drop}
-use Rattle.traces.specs.Clashes.{within, meet}
+use Rattle.traces.specs.Clashes.{within}
 use Rattle.lines.specs.declared.fault.TextFault.{TextFault}
 use Rattle.lines.specs.Hex.{line_bytes}
 use Rattle.lines.specs.Texts.{lines_of}
 use Rattle.frames.specs.declared.fault.FrameFault.{FrameFault}
 use Rattle.frames.specs.Kinds.{movement_length}
-use Rattle.frames.specs.Frames.{Content, movement, pair, opening, order_a, order_b, closing, after_bytes, by_kind}
-use Rattle.entries.specs.declared.memory.Step.{Step}
-use Rattle.entries.specs.Entries.{Movement, movement_at}
+use Rattle.frames.specs.Frames.{Content, after_bytes, by_kind}
 use Rattle.entries.specs.Giving.{steps_of}
 use Rattle.books.specs.Says.{movement_in, ReadAs}
-use Rattle.entries.proofs.Numbered.{length_movements}
-use Rattle.headways.specs.Sections.{sections_of}
-use Rattle.headways.specs.Rules.{count_of, held, sharing, ReadMovementsHaveSteps, SharingIsClashing}
-
-abbrev HasStep : Movement → Type 0
-HasStep m = 0 < length m.steps
+use Rattle.headways.specs.Rules.{count_of, held, sharing, HasStep, ReadMovementsHaveSteps, SharingIsClashing}
+use Rattle.headways.specs.Related.{shares_itself}
 
 -- five bytes and more make a step
 some_step : (s : List ℕ) → 5 ≤ length s → 0 < length (steps_of s)
@@ -31,55 +27,35 @@ some_step (a ∷ b ∷ c ∷ []) h = absurd (omega arith)
 some_step (a ∷ b ∷ c ∷ d ∷ []) h = absurd (omega arith)
 some_step (a ∷ b ∷ c ∷ d ∷ e ∷ s) h = omega arith
 
-no_test : ◌≡◌ {A = ℕ} 0 1 → ⊥
-no_test z = omega arith
+-- each movement that a line gives has a step
+abbrev Stepped : Content → Type 0
+Stepped c = AllByRecursion HasStep (movement_in c)
 
--- which way a test went
-went : {X : Type 0} (t : Bool) (x y r : X) → cond t x y ≡ r → ((t ≡ true) × (x ≡ r)) ⊎ ((t ≡ false) × (y ≡ r))
-went true x y r e = inl (refl, e)
-went false x y r e = inr (refl, e)
+both_ways : (t : Bool) (x y : Result Content FrameFault) → (t ≡ true → IfOk x Stepped) → IfOk y Stepped → IfOk (cond t x y) Stepped
+both_ways true x y first second = first refl
+both_ways false x y first second = second
 
-neither : {X : Type 0} (t : Bool) (x y r : X) → (x ≡ r → ⊥) → (y ≡ r → ⊥) → cond t x y ≡ r → ⊥
-neither true x y r no_x no_y e = no_x e
-neither false x y r no_x no_y e = no_y e
+-- a line of another kind gives no movement
+other_kind : (t : Bool) (c : Content) (f : FrameFault) → Stepped c → IfOk (cond t (Ok c) (Err f)) Stepped
+other_kind t c f none = both_ways t (Ok c) (Err f) (λ _. none) tt
 
--- what is read as a movement is of no other kind
-not_sized : (t : Bool) (c : Content) (f : FrameFault) (m p l : ℕ) (s : List ℕ) → (c ≡ movement m p l s → ⊥) → cond t (Ok c) (Err f) ≡ Ok (movement m p l s) → ⊥
-not_sized true c f m p l s other e = other (cc)
-not_sized false c f m p l s other e = no_test (cc)
+by_kind_steps : (k b : ℕ) (bs : List ℕ) → IfOk (by_kind k bs b) Stepped
+by_kind_steps k b bs =
+    both_ways (eqb b 1) _ _
+    (λ _. both_ways (movement_length (length bs)) _ _ (λ fits. (some_step (drop 3 bs) (rw length-drop (grind (arith, nat_tests))), tt)) tt)
+    (both_ways (eqb b 2) _ _ (λ _. other_kind _ _ _ tt)
+    (both_ways (eqb b 3) _ _ (λ _. other_kind _ _ _ tt)
+    (both_ways (eqb b 4) _ _ (λ _. other_kind _ _ _ tt)
+    (both_ways (eqb b 5) _ _ (λ _. other_kind _ _ _ tt)
+    (both_ways (eqb b 6) _ _ (λ _. other_kind _ _ _ tt) tt)))))
 
-by_kind_lem : (k b : ℕ) (bs : List ℕ) (m p l : ℕ) (s : List ℕ) → by_kind k bs b ≡ Ok (movement m p l s) → 5 ≤ length s
-by_kind_lem k b bs m p l s e =
-    ⊎_elim
-    (λ w. ⊎_elim
-    (λ v.
-    let parts = and_parts (eqb ((length bs - 3) % 5) 0 && leb 5 (length bs - 3)) (leb (length bs - 3) 120) v.0 in
-    let least = leb-true 5 (length bs - 3) (and_parts (eqb ((length bs - 3) % 5) 0) (leb 5 (length bs - 3)) parts.0).1 in
-    let is : s ≡ drop 3 bs = cc in rw is (rw length-drop least))
-    (λ v. absurd (no_test (cc)))
-    (went (movement_length (length bs)) _ _ _ w.1))
-    (λ w. absurd
-    (neither (eqb b 2) _ _ _ (not_sized _ _ _ m p l s (λ c. no_test (cc)))
-    (neither (eqb b 3) _ _ _ (not_sized _ _ _ m p l s (λ c. no_test (cc)))
-    (neither (eqb b 4) _ _ _ (not_sized _ _ _ m p l s (λ c. no_test (cc)))
-    (neither (eqb b 5) _ _ _ (not_sized _ _ _ m p l s (λ c. no_test (cc)))
-    (neither (eqb b 6) _ _ _ (not_sized _ _ _ m p l s (λ c. no_test (cc)))
-    (λ c. no_test (cc)))))) w.1))
-    (went (eqb b 1) _ _ _ e)
+line_steps : (k : ℕ) (r : Result (List ℕ) TextFault) → IfOk (after_bytes k r) Stepped
+line_steps k (Ok []) = tt
+line_steps k (Ok (b ∷ bs)) = by_kind_steps k b (b ∷ bs)
+line_steps k (Err f) = tt
 
--- a line that is read as a movement has a whole step
-read_movement : (k : ℕ) (r : Result (List ℕ) TextFault) (m p l : ℕ) (s : List ℕ) → after_bytes k r ≡ Ok (movement m p l s) → 5 ≤ length s
-read_movement k (Ok []) m p l s e = absurd (no_test (cc))
-read_movement k (Ok (b ∷ bs)) m p l s e = by_kind_lem k b (b ∷ bs) m p l s e
-read_movement k (Err f) m p l s e = absurd (no_test (cc))
-
-has_steps : (k : ℕ) (r : Result (List ℕ) TextFault) (c : Content) → after_bytes k r ≡ Ok c → AllByRecursion HasStep (movement_in c)
-has_steps k r (movement m p l s) e = (some_step s (read_movement k r m p l s e), tt)
-has_steps k r (pair a b g w) e = tt
-has_steps k r (opening m s) e = tt
-has_steps k r (order_a l s) e = tt
-has_steps k r (order_b l s) e = tt
-has_steps k r (closing m w) e = tt
+has_steps : (k : ℕ) (r : Result (List ℕ) TextFault) (c : Content) → after_bytes k r ≡ Ok c → Stepped c
+has_steps k r c e = subst (λ (x : Result Content FrameFault). IfOk x Stepped) e (line_steps k r)
 
 all_have_steps : (k : ℕ) (ls : List (List ℕ)) (cs : List Content) → ReadAs k ls cs → AllByRecursion HasStep (flat_map movement_in cs)
 all_have_steps k [] [] r = tt
@@ -91,28 +67,8 @@ all_have_steps k (l ∷ ls) (c ∷ cs) r =
 pub read_movements_have_steps : ReadMovementsHaveSteps
 read_movements_have_steps text b h = rw h.says.gives.movements (all_have_steps 1 (lines_of text) h.contents h.read)
 
--- the sections of a movement that has a step meet themselves
-meets_itself : (p : List Step) → 0 < length p → meet (sections_of p) (sections_of p) ≡ true
-meets_itself [] h = absurd (omega arith)
-meets_itself (x ∷ p) h = rw (eq-eqb x.section x.section refl) refl
-
--- a test for the same movement adds nothing where the other test passes it
-same_test : (first second same test : Bool) → (first ≡ true → same ≡ true → test ≡ true) → (first && (second && (same || test))) ≡ (first && (second && test))
-same_test true true true test h = sym (h refl refl)
-same_test true true false test h = refl
-same_test true false same test h = refl
-same_test false second same test h = refl
-
 pub sharing_is_clashing : SharingIsClashing
 sharing_is_clashing book memory steps a b =
-    same_test (within (count_of book) a) (within (count_of book) b) (eqb a b) (sharing (held book memory) a b)
-    (λ inside same.
-    let none : Movement = record { priority = 0; steps = [] } in
-    let ms : List Movement = (held book memory).movements in
-    let count : length ms ≡ count_of book = length_movements book.counts.movements book.counts.runs_a book.counts.runs_b a memory (omega (arith, book.counts.few, memory.long)) in
-    let known : within (length ms) a ≡ true = ap (λ k. within k a) count ∙ inside in
-    let found : movement_at (held book memory) a ≡ get_or ms (a - 1) none = cond-true (within (length ms) a) _ _ known in
-    let bounds = and_parts (leb 1 a) (leb a (length ms)) known in
-    let some : 0 < length (movement_at (held book memory) a).steps =
-    rw found (All-get_or HasStep ms (a - 1) none (omega (arith, leb-true 1 a bounds.0, leb-true a (length ms) bounds.1)) steps) in
-    rw (← eqb-true a b same) (meets_itself (movement_at (held book memory) a).steps some))
+    let count : length (held book memory).movements ≡ count_of book = grind (arith, common_steps, book.counts.few, memory.long) in
+    let itself : within (count_of book) a ≡ true → sharing (held book memory) a a ≡ true = λ inside. shares_itself (held book memory) steps a (ap (λ k. within k a) count ∙ inside) in
+    grind (arith, nat_tests, itself)

@@ -2,8 +2,6 @@
 use Rattle.std.specs.Prelude.{◌≡◌, ℕ, ◌<◌, Bool, true, ◌&&◌, ◌⊎◌, ◌↔◌, List, length, is_some, Some, None, Option}
 use Rattle.std.specs.List.{AllByRecursion}
 use Rattle.traces.specs.Clashes.{Lawful, within, clash_by, either_way, meet}
-use Rattle.traces.proofs.Lawfuls.{mutual_test_is_lawful, either_way_is_mutual}
-use Rattle.traces.proofs.Meeting.{meeting_is_mutual}
 use Rattle.frames.specs.Frames.{Content, pair}
 use Rattle.entries.specs.declared.memory.Listed.{Listed}
 use Rattle.entries.specs.declared.memory.Memory.{Memory}
@@ -42,6 +40,10 @@ table_rule book memory = clash_by (count_of book) (either_way (listing (held boo
 abbrev pub sections_gap : {T : Type 0} → (ℕ → ℕ → T) → Entries → ℕ → ℕ → T
 sections_gap made e a b = made (section_gap (movement_at e a).steps (movement_at e b).steps) (movement_at e a).priority
 
+-- the same gap, as its seconds with its weight
+abbrev pub sections_listed : Entries → ℕ → ℕ → Option Listed
+sections_listed e a b = Some (record { gap = section_gap (movement_at e a).steps (movement_at e b).steps; weight = (movement_at e a).priority })
+
 -- by table, the gap from a to b is the one listed for that ordered pair, and zero where none is
 abbrev pub listed_gap : {T : Type 0} → T → (ℕ → ℕ → T) → Option Listed → T
 listed_gap origin made (Some l) = made l.gap l.weight
@@ -51,15 +53,11 @@ abbrev pub table_gap : {T : Type 0} → T → (ℕ → ℕ → T) → Entries �
 table_gap origin made e a b = listed_gap origin made (pair_at e a b)
 
 -- whatever the memory holds, both keep the laws
-pub sections_laws : (book : Book) (memory : Memory) → Lawful (count_of book) (sections_rule book memory)
-sections_laws book memory =
-    mutual_test_is_lawful (count_of book) (sharing (held book memory)) book.some book.counts.few
-    (λ a b. meeting_is_mutual (sections_of (movement_at (held book memory) a).steps) (sections_of (movement_at (held book memory) b).steps))
+abbrev pub SectionsRuleIsLawful : Type 0
+SectionsRuleIsLawful = (book : Book) (memory : Memory) → Lawful (count_of book) (sections_rule book memory)
 
-pub table_laws : (book : Book) (memory : Memory) → Lawful (count_of book) (table_rule book memory)
-table_laws book memory =
-    mutual_test_is_lawful (count_of book) (either_way (listing (held book memory))) book.some book.counts.few
-    (either_way_is_mutual (listing (held book memory)))
+abbrev pub TableRuleIsLawful : Type 0
+TableRuleIsLawful = (book : Book) (memory : Memory) → Lawful (count_of book) (table_rule book memory)
 
 -- a line lists the ordered pair (a, b)
 abbrev pub Lists : List Content → ℕ → ℕ → Type 0
@@ -76,9 +74,16 @@ pub record TableOfLines (cs : List Content) (book : Book) (memory : Memory) : Ty
 abbrev pub TableIsOfItsLines : Type 0
 TableIsOfItsLines = (text : List ℕ) (book : Book) (memory : Memory) (h : HoldsLines text (book_of book memory)) → TableOfLines h.contents book memory
 
--- every movement has a step
+-- a movement has a step, and every movement has one
+abbrev pub HasStep : Movement → Type 0
+HasStep m = 0 < length m.steps
+
 abbrev pub HasSteps : Entries → Type 0
-HasSteps e = AllByRecursion (λ (m : Movement). 0 < length m.steps) e.movements
+HasSteps e = AllByRecursion HasStep e.movements
+
+-- each movement is listed with itself
+abbrev pub ListsThemselves : Entries → Type 0
+ListsThemselves e = (a : ℕ) → within (length e.movements) a ≡ true → listing e a a ≡ true
 
 -- in a book that was read from lines, every movement has a step
 abbrev pub ReadMovementsHaveSteps : Type 0

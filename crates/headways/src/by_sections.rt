@@ -1,75 +1,39 @@
-ghost use Rattle.std.specs.Prelude.{◌≡◌};
-ghost use Rattle.headways.specs.Rules.{count_of, held, HasSteps, shared_rule, sections_rule, sections_gap, sections_laws};
+ghost use Rattle.headways.specs.Rules.{sharing, sections_listed, HasSteps};
+ghost use Rattle.headways.specs.Related.{sharing_is_mutual, shares_itself};
 
+use crate::basis::Basis;
+use crate::rule::RuleBy;
 use crate::steps::{section_gap, share_section};
-use books::state::Book;
-use entries::memory::Memory;
-use entries::movements::is_within;
-use rules::clash::Clash;
-use rules::headway::Headway;
-use std::marker::PhantomData;
-use times::time::Time;
+use books::state::in_memory::BookInMemory;
+use entries::memory::Listed;
 
-// Headways by blocking sections, in one kind of time: two movements clash when they share a section, and each clashes
-// with itself. Only a book makes such a rule, which holds the book and its memory, both lent for reading.
+// Blocking sections: two movements are related when they share a section, and the gap is what their steps ask for, with
+// the first's priority for a weight.
 #[derive(Clone, Copy)]
-pub struct BySections<'a, K> {
-    book: &'a Book,
-    memory: &'a Memory,
-    kind: PhantomData<K>,
-}
+pub struct Sections;
 
-impl<'a, K: Time> BySections<'a, K> {
-    // The rule of a book with its memory.
-    pub fn of(book: &'a Book, memory: &'a Memory) -> BySections<'a, K>
-        ensures book { result.book.now ≡ book.now }
-        ensures memory { result.memory.now ≡ memory.now }
-    {
-        BySections {
-            book,
-            memory,
-            kind: PhantomData,
-        }
-    }
-}
+// Headways by blocking sections, in one kind of time.
+pub type BySections<'a, K> = RuleBy<'a, Sections, K>;
 
-impl<'a, K: Time> Clash for BySections<'a, K> {
-    ghost count = { λ r. count_of r.book.now };
+impl Basis for Sections {
+    ghost relates = { sharing };
 
-    ghost clash = { λ r. sections_rule r.book.now r.memory.now };
+    ghost gap = { sections_listed };
 
-    ghost laws = { λ r. sections_laws r.book.now r.memory.now };
+    ghost complete = { HasSteps };
 
-    fn movements(&self) -> u8 {
-        self.book.movements()
+    ghost symmetric = { sharing_is_mutual };
+
+    ghost itself = { shares_itself };
+
+    fn relates(book: BookInMemory<'_>, a: u8, b: u8) -> bool {
+        share_section(book.steps(a), book.steps(b))
     }
 
-    fn clashes(&self, a: u8, b: u8) -> bool
-        ensures rule { result ≡ sections_rule self.now.book.now self.now.memory.now a b }
-        ensures shared { HasSteps (held self.now.book.now self.now.memory.now) → result ≡ shared_rule self.now.book.now self.now.memory.now a b }
-    {
-        let count = self.book.movements() as usize;
-        if !is_within(count, a) || !is_within(count, b) {
-            return false;
-        }
-        let first = self.book.steps(self.memory, a);
-        let second = self.book.steps(self.memory, b);
-        a == b || share_section(first, second)
-    }
-}
-
-impl<'a, K: Time> Headway for BySections<'a, K> {
-    type Kind = K;
-
-    ghost headway = { λ r a b. sections_gap K.Time.made (held r.book.now r.memory.now) a b };
-
-    fn gap(&self, a: u8, b: u8) -> K {
-        if !self.clashes(a, b) {
-            return K::zero();
-        }
-        let first = self.book.steps(self.memory, a);
-        let second = self.book.steps(self.memory, b);
-        let priority = self.book.priority(self.memory, a);
-        K::make(section_gap(first, second) as u32, priority as u16)
+    fn gap(book: BookInMemory<'_>, a: u8, b: u8) -> Option<Listed> {
+        Some(Listed {
+            gap: section_gap(book.steps(a), book.steps(b)),
+            weight: book.priority(a),
+        })
     }
 }

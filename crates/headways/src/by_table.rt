@@ -1,71 +1,36 @@
-ghost use Rattle.std.specs.Prelude.{◌≡◌};
-ghost use Rattle.headways.specs.Rules.{count_of, held, table_rule, table_gap, table_laws};
+ghost use Rattle.traces.specs.Clashes.{either_way};
+ghost use Rattle.entries.specs.Entries.{pair_at};
+ghost use Rattle.headways.specs.Rules.{listing, ListsThemselves};
+ghost use Rattle.headways.specs.Related.{listing_is_mutual, lists_itself};
 
-use books::state::Book;
-use entries::memory::Memory;
-use entries::movements::is_within;
-use rules::clash::Clash;
-use rules::headway::Headway;
-use std::marker::PhantomData;
-use times::time::Time;
+use crate::basis::Basis;
+use crate::rule::RuleBy;
+use books::state::in_memory::BookInMemory;
+use entries::memory::Listed;
 
-// Headways by a table, in one kind of time: a pair that is listed clashes both ways, and keeps its gap in the listed
-// direction; each movement clashes with itself. Only a book makes such a rule, which holds the book and its memory, both lent for reading.
+// A table: a pair that is listed is related both ways, and keeps its gap in the listed direction.
 #[derive(Clone, Copy)]
-pub struct ByTable<'a, K> {
-    book: &'a Book,
-    memory: &'a Memory,
-    kind: PhantomData<K>,
-}
+pub struct Table;
 
-impl<'a, K: Time> ByTable<'a, K> {
-    // The rule of a book with its memory.
-    pub fn of(book: &'a Book, memory: &'a Memory) -> ByTable<'a, K>
-        ensures book { result.book.now ≡ book.now }
-        ensures memory { result.memory.now ≡ memory.now }
-    {
-        ByTable {
-            book,
-            memory,
-            kind: PhantomData,
-        }
-    }
-}
+// Headways by a table, in one kind of time.
+pub type ByTable<'a, K> = RuleBy<'a, Table, K>;
 
-impl<'a, K: Time> Clash for ByTable<'a, K> {
-    ghost count = { λ r. count_of r.book.now };
+impl Basis for Table {
+    ghost relates = { λ e. either_way (listing e) };
 
-    ghost clash = { λ r. table_rule r.book.now r.memory.now };
+    ghost gap = { pair_at };
 
-    ghost laws = { λ r. table_laws r.book.now r.memory.now };
+    ghost complete = { ListsThemselves };
 
-    fn movements(&self) -> u8 {
-        self.book.movements()
+    ghost symmetric = { listing_is_mutual };
+
+    ghost itself = { lists_itself };
+
+    fn relates(book: BookInMemory<'_>, a: u8, b: u8) -> bool {
+        book.listed(a, b).is_some() || book.listed(b, a).is_some()
     }
 
-    fn clashes(&self, a: u8, b: u8) -> bool {
-        let count = self.book.movements() as usize;
-        if !is_within(count, a) || !is_within(count, b) {
-            return false;
-        }
-        a == b
-            || self.book.listed(self.memory, a, b).is_some()
-            || self.book.listed(self.memory, b, a).is_some()
-    }
-}
-
-impl<'a, K: Time> Headway for ByTable<'a, K> {
-    type Kind = K;
-
-    ghost headway = { λ r a b. table_gap K.Time.origin K.Time.made (held r.book.now r.memory.now) a b };
-
-    fn gap(&self, a: u8, b: u8) -> K {
-        if !self.clashes(a, b) {
-            return K::zero();
-        }
-        match self.book.listed(self.memory, a, b) {
-            Some(listed) => K::make(listed.gap as u32, listed.weight as u16),
-            None => K::zero(),
-        }
+    fn gap(book: BookInMemory<'_>, a: u8, b: u8) -> Option<Listed> {
+        book.listed(a, b)
     }
 }

@@ -1,4 +1,4 @@
-ghost use Rattle.std.specs.Prelude.{◌≡◌, ℕ, ◌<◌, false, slice_index, slice_index_or};
+ghost use Rattle.std.specs.Prelude.{◌≡◌, ℕ, false, slice_index, slice_index_or};
 ghost use Rattle.traces.specs.Clashes.{holds, meet};
 ghost use Rattle.headways.specs.Sections.{sections_of, release_of, released_on, section_gap};
 
@@ -9,7 +9,7 @@ const SECTIONS: usize = 256;
 
 // For each section, whether one of the steps is over it.
 fn marked_sections(steps: &[Step]) -> [bool; SECTIONS]
-    ensures { (s : ℕ) → s < 256 → slice_index_or result s false ≡ holds (sections_of steps.now) s }
+    ensures { (s : ℕ) → slice_index_or result s false ≡ holds (sections_of steps.now) s }
 {
     let mut marked = [false; SECTIONS];
     for step in steps {
@@ -40,7 +40,7 @@ fn release(step: &Step) -> u16
 
 // For each section, the latest release of the steps over it; 0 where there is none.
 fn latest_releases(steps: &[Step]) -> [u16; SECTIONS]
-    ensures { (s : ℕ) → s < 256 → slice_index result s ≡ released_on steps.now s }
+    ensures { (s : ℕ) → slice_index result s ≡ released_on steps.now s }
 {
     let mut released = [0; SECTIONS];
     for step in steps {
@@ -55,9 +55,7 @@ pub fn section_gap(first: &[Step], second: &[Step]) -> u16
     ensures { result ≡ section_gap first.now second.now }
 {
     let released = latest_releases(first);
-    let mut gap = 0u16;
-    for step in second {
-        gap = gap.max(released[step.section as usize].saturating_sub(step.set));
-    }
-    gap
+    second.iter().fold(0u16, |gap, step| {
+        gap.max(released[step.section as usize].saturating_sub(step.set))
+    })
 }

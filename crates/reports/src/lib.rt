@@ -35,7 +35,7 @@ fn taken_lines(text: &[u8]) -> Result<usize, BookFault>
         let _lines = draft.give_up();
         fault
     })?;
-    let _rule = book_rule::<Ranked>(&book, &memory);
+    let _rule = book_rule::<Ranked>(book.in_memory(&memory));
     Ok(book.lines())
 }
 

@@ -80,23 +80,24 @@ fn book_of(rt: &HostRuntime, text: &[u8], memory: &mut Memory) -> anyhow::Result
 pub(crate) fn ask_book(rt: &HostRuntime, text: &[u8]) -> anyhow::Result<()> {
     let mut memory = Memory::new();
     if let Some(book) = book_of(rt, text, &mut memory)? {
+        let book = book.in_memory(&memory);
         table(
             rt,
             "sections",
-            &BySections::<Plain>::of(&book, &memory),
-            &BySections::<Ranked>::of(&book, &memory),
+            &BySections::<Plain>::of(book),
+            &BySections::<Ranked>::of(book),
         )?;
         table(
             rt,
             "table",
-            &ByTable::<Plain>::of(&book, &memory),
-            &ByTable::<Ranked>::of(&book, &memory),
+            &ByTable::<Plain>::of(book),
+            &ByTable::<Ranked>::of(book),
         )?;
         table(
             rt,
             "union",
-            &book_rule::<Plain>(&book, &memory),
-            &book_rule::<Ranked>(&book, &memory),
+            &book_rule::<Plain>(book),
+            &book_rule::<Ranked>(book),
         )?;
     }
     Ok(())
@@ -112,16 +113,18 @@ pub(crate) fn ask_both(rt: &HostRuntime, first: &[u8], second: &[u8]) -> anyhow:
     let Some(second_book) = book_of(rt, second, &mut other)? else {
         return Ok(());
     };
+    let book = book.in_memory(&memory);
+    let second_book = second_book.in_memory(&other);
     table(
         rt,
         "joined",
         &Union {
-            first: book_rule::<Plain>(&book, &memory),
-            second: book_rule::<Plain>(&second_book, &other),
+            first: book_rule::<Plain>(book),
+            second: book_rule::<Plain>(second_book),
         },
         &Union {
-            first: book_rule::<Ranked>(&book, &memory),
-            second: book_rule::<Ranked>(&second_book, &other),
+            first: book_rule::<Ranked>(book),
+            second: book_rule::<Ranked>(second_book),
         },
     )
 }

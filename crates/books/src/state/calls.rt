@@ -1,12 +1,10 @@
 ghost use Rattle.std.specs.Prelude.{◌≡◌};
 ghost use Rattle.frames.specs.Frames.{content};
-ghost use Rattle.entries.specs.Entries.{movement_at, pair_at};
-ghost use Rattle.books.specs.Held.{draft_of, book_of, empty};
+ghost use Rattle.books.specs.Held.{draft_of, empty};
 ghost use Rattle.books.specs.Taking.{after_frame, Taken, Shut};
 
 use super::{Book, Counts, Draft};
-use entries::memory::{Listed, MOST_MOVEMENTS, Memory, Route, Step};
-use entries::movements::is_within;
+use entries::memory::{MOST_MOVEMENTS, Memory};
 use faults::BookFault;
 use frames::frame::Frame;
 use stops::{Fault, Stop};
@@ -90,36 +88,5 @@ impl Book {
         ensures { result ≡ self.now.counts.movements }
     {
         self.counts.movements as u8
-    }
-
-    // The steps of a movement; none for a number that no movement has.
-    pub fn steps<'m>(&self, memory: &'m Memory, movement: u8) -> &'m [Step]
-        ensures { result.now ≡ (movement_at (book_of self.now memory.now).entries movement).steps }
-    {
-        if !is_within(self.counts.movements, movement) {
-            return &[];
-        }
-        let routes: &[Route] = &memory.routes;
-        routes[movement as usize - 1].steps()
-    }
-
-    // The priority of a movement; 0 for a number that no movement has.
-    pub fn priority(&self, memory: &Memory, movement: u8) -> u8
-        ensures { result ≡ (movement_at (book_of self.now memory.now).entries movement).priority }
-    {
-        if !is_within(self.counts.movements, movement) {
-            return 0;
-        }
-        memory.routes[movement as usize - 1].priority
-    }
-
-    // What the table lists for an ordered pair, if it lists it.
-    pub fn listed(&self, memory: &Memory, first: u8, second: u8) -> Option<Listed>
-        ensures { result ≡ pair_at (book_of self.now memory.now).entries first second }
-    {
-        if !is_within(self.counts.movements, first) || !is_within(self.counts.movements, second) {
-            return None;
-        }
-        memory.table[first as usize - 1][second as usize - 1]
     }
 }

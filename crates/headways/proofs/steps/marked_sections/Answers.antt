@@ -1,19 +1,23 @@
-use Rattle.std.proofs.Common.{◌<◌, true, length, get_or, sym, refl, ◌∙◌, rules}
-use Rattle.std.proofs.lemmas.List.{length-set}
-use Rattle.entries.specs.declared.memory.Step.{Step}
-use Rattle.headways.proofs.Passes.{mark_none, mark_step, mark_all}
+use Rattle.std.proofs.Common.{refl, false, arith}
+use Rattle.std.proofs.lemmas.Grind.{common_steps}
+use Rattle.std.proofs.lemmas.List.{at_drop_more, at_drop_all}
+use Rattle.traces.specs.Clashes.{holds}
+use Rattle.headways.specs.Sections.{sections_of}
+use Rattle.headways.proofs.Passes.{all_alike}
 use Rattle.headways.proofs.steps.marked_sections.Goals as goal
 
 pub loop-step-init : goal.loop-step-init
-loop-step-init c = (refl, λ s inside. mark_none s _ inside)
+loop-step-init c = record { whole = refl; marks = λ s. grind (arith, all_alike 256 s false) }
 
 pub loop-step-preserved : goal.loop-step-preserved
-loop-step-preserved c =
-    let d : Step = record { section = 0; set = 0; release = 0 } in
-    let inside : (get_or c.args.steps.now c.loop-step.step-index d).section < length c.loop-step.marked = search rules in (
-      length-set c.loop-step.marked _ true ∙ c.loop-step.invariant.0,
-      λ s known. mark_step c.args.steps.now c.loop-step.step-index d c.loop-step-test.true c.loop-step.marked s inside ∙ c.loop-step.invariant.1 s known,
-    )
+loop-step-preserved c = record {
+  whole = grind (arith, common_steps);
+  marks = λ s.
+      let next = at_drop_more (λ p. holds (sections_of p) s) c.args.steps.now c.loop-step.step-index (record { section = 0; set = 0; release = 0 }) c.loop-step-test.true in
+      grind (arith, common_steps, next, c.loop-step.invariant.marks s);
+}
 
 pub returns : goal.returns
-returns c = λ s known. sym (mark_all c.args.steps.now c.loop-step.step-index s _ c.loop-step-test.false) ∙ c.loop-step.invariant.1 s known
+returns c = λ s.
+    let none = at_drop_all (λ p. holds (sections_of p) s) c.args.steps.now c.loop-step.step-index c.loop-step-test.false in
+    grind (arith, none, c.loop-step.invariant.marks s)

@@ -1,17 +1,11 @@
-use Rattle.std.proofs.Common.{◌≡◌, ℕ, ◌-◌, ◌<◌, max, get_or, sym, ap, ◌∙◌, rules}
+use Rattle.std.proofs.Common.{◌-◌, max, get_or, ◌∙◌, rules}
+use Rattle.std.proofs.lemmas.Iterator.{YieldsList-from_slice}
+use Rattle.std.proofs.lemmas.Iterator.Consumers.{fold_from_yields_List}
 use Rattle.entries.specs.declared.memory.Step.{Step}
-use Rattle.headways.specs.Sections.{released_on}
-use Rattle.headways.proofs.Passes.{gap_step, gap_all}
+use Rattle.headways.proofs.Passes.{gap_by_releases}
 use Rattle.headways.proofs.steps.section_gap.Goals as goal
 
-pub loop-step-preserved : goal.loop-step-preserved
-loop-step-preserved c =
-    let d : Step = record { section = 0; set = 0; release = 0 } in
-    let x : Step = get_or c.args.second.now c.loop-step.step-index d in
-    let inside : x.section < 256 = search rules in
-    let put : c.max-gap.result ≡ max c.loop-step.gap (released_on c.args.first.now x.section - x.set) =
-    c.max-gap.ensures ∙ ap (λ (k : ℕ). max c.loop-step.gap k) (c.saturating_sub.ensures ∙ ap (λ (k : ℕ). k - x.set) (c.latest_releases-released.ensures x.section inside)) in
-    rw put (gap_step c.args.first.now c.args.second.now c.loop-step.step-index d c.loop-step-test.true c.loop-step.gap ∙ c.loop-step.invariant)
-
 pub returns : goal.returns
-returns c = sym (gap_all c.args.first.now c.args.second.now c.loop-step.step-index c.loop-step.gap c.loop-step-test.false) ∙ c.loop-step.invariant
+returns c =
+    fold_from_yields_List _ (λ k (x : Step). max k (get_or c.latest_releases-released.result x.section 0 - x.set)) _ _ c.fold.ensures.ran (YieldsList-from_slice c.args.second.now cc) (λ a x b q k. search rules)
+    ∙ gap_by_releases _ c.latest_releases-released.result c.latest_releases-released.ensures c.args.second.now

@@ -1,7 +1,7 @@
-use Rattle.std.proofs.Common.{◌≡◌, drop}
-use Rattle.traces.specs.Clashes.{meet}
-use Rattle.headways.specs.Sections.{sections_of}
+use Rattle.std.proofs.Common.{◌≡◌, false, get_or, take}
+use Rattle.std.specs.List.{list_any}
+use Rattle.entries.specs.declared.memory.Step.{Step}
 use Rattle.headways.proofs.steps.share_section.Given as goal
 
 abbrev pub invariant-loop-step : goal.invariant-loop-step
-invariant-loop-step l = meet (sections_of l.first) (sections_of (drop l.step-index l.second)) ≡ meet (sections_of l.first) (sections_of l.second)
+invariant-loop-step l = list_any (λ (x : Step). get_or l.marked x.section false) (take l.step-index l.second) ≡ false

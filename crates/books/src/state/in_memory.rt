@@ -1,0 +1,74 @@
+ghost use Rattle.std.specs.Prelude.{◌≡◌, [], MatchOption};
+ghost use Rattle.entries.specs.Entries.{movement_at, movement_of, pair_at};
+ghost use Rattle.books.specs.InMemory.{entries_in};
+
+use super::Book;
+use entries::memory::{Listed, Memory, Route, Step};
+use entries::movements::is_within;
+
+// A book with its memory, both lent for reading. Only a book makes one.
+#[derive(Clone, Copy)]
+pub struct BookInMemory<'a> {
+    book: &'a Book,
+    memory: &'a Memory,
+}
+
+impl Book {
+    // The book with a memory that is lent to it.
+    pub fn in_memory<'a>(&'a self, memory: &'a Memory) -> BookInMemory<'a>
+        ensures book { result.book.now ≡ self.now }
+        ensures memory { result.memory.now ≡ memory.now }
+    {
+        BookInMemory { book: self, memory }
+    }
+}
+
+impl<'a> BookInMemory<'a> {
+    // How many movements the book has, 1 to 64.
+    pub fn movements(self) -> u8
+        ensures { result ≡ self.entry.book.now.counts.movements }
+    {
+        self.book.movements()
+    }
+
+    // The steps of a movement; none for a number that no movement has.
+    pub fn steps(self, movement: u8) -> &'a [Step]
+        ensures { result.now ≡ (movement_at (entries_in self.entry) movement).steps }
+    {
+        match self.route(movement) {
+            Some(route) => route.steps(),
+            None => &[],
+        }
+    }
+
+    // The priority of a movement; 0 for a number that no movement has.
+    pub fn priority(self, movement: u8) -> u8
+        ensures { result ≡ (movement_at (entries_in self.entry) movement).priority }
+    {
+        match self.route(movement) {
+            Some(route) => route.priority,
+            None => 0,
+        }
+    }
+
+    // What the table lists for an ordered pair, if it lists it.
+    pub fn listed(self, first: u8, second: u8) -> Option<Listed>
+        ensures { result ≡ pair_at (entries_in self.entry) first second }
+    {
+        let count = self.book.counts.movements;
+        if !is_within(count, first) || !is_within(count, second) {
+            return None;
+        }
+        self.memory.table[first as usize - 1][second as usize - 1]
+    }
+
+    // A movement as memory has it, if one has the number.
+    fn route(self, movement: u8) -> Option<&'a Route>
+        ensures { MatchOption result (movement_at (entries_in self.entry) movement ≡ record { priority = 0; steps = [] }) (λ route. movement_at (entries_in self.entry) movement ≡ movement_of route.now) }
+    {
+        if !is_within(self.book.counts.movements, movement) {
+            return None;
+        }
+        Some(&self.memory.routes[movement as usize - 1])
+    }
+}
