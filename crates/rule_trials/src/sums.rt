@@ -1,3 +1,4 @@
+use std::fmt;
 use times::plain::Plain;
 use times::ranked::Ranked;
 use times::time::Time;
@@ -24,28 +25,26 @@ fn sign<T: Time>(first: T, second: T) -> &'static str {
     }
 }
 
-// The sum of two plain times, and how they compare.
-fn add_plain(rt: &HostRuntime, line: &str) -> anyhow::Result<()> {
-    let [first, second, ..] = numbers(line)?;
-    let first = Plain::make(first, 0);
-    let second = Plain::make(second, 0);
-    let sum = first.plus(second).seconds();
+// Prints the sum of two times, and how they compare.
+fn print_sum<T: Time + fmt::Display>(rt: &HostRuntime, first: T, second: T) -> anyhow::Result<()> {
+    let sum = first.plus(second);
     let order = sign(first, second);
     println!(rt; "{sum} {order}")?;
     Ok(())
 }
 
-// The sum of two ranked times, and how they compare.
+// Two plain times, by their seconds.
+fn add_plain(rt: &HostRuntime, line: &str) -> anyhow::Result<()> {
+    let [first, second, ..] = numbers(line)?;
+    print_sum(rt, Plain::make(first, 0), Plain::make(second, 0))
+}
+
+// Two ranked times, by seconds and weight of each.
 fn add_ranked(rt: &HostRuntime, line: &str) -> anyhow::Result<()> {
     let [first, first_weight, second, second_weight] = numbers(line)?;
     let first = Ranked::make(first, u16::try_from(first_weight)?);
     let second = Ranked::make(second, u16::try_from(second_weight)?);
-    let sum = first.plus(second);
-    let seconds = sum.seconds();
-    let weight = sum.weight();
-    let order = sign(first, second);
-    println!(rt; "{seconds} {weight} {order}")?;
-    Ok(())
+    print_sum(rt, first, second)
 }
 
 // Adds and compares two times for each line: `plain` with two numbers, or `ranked` with seconds and weight twice.

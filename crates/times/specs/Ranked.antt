@@ -1,5 +1,5 @@
 -- Ranked time: plain time, then a weight of 0 to 9,999. Assumes nothing.
-use Rattle.std.specs.Prelude.{ℕ, ◌+◌, min, Bool, cond, ◌&&◌, ◌||◌, ◌==◌, nat_le, nat_lt}
+use Rattle.std.specs.Prelude.{ℕ, ◌+◌, min, Bool, cond, ◌&&◌, ◌||◌, ◌==◌, nat_le, nat_lt, List, ◌++◌, codes, decimal}
 use Rattle.times.specs.declared.plain.Plain.{Plain}
 use Rattle.times.specs.declared.ranked.Ranked.{Ranked}
 use Rattle.times.specs.Plain.{last_second, plain, plain_meaning, plain_sum}
@@ -29,3 +29,7 @@ abbrev pub ranked_not_after : Ranked → Ranked → Bool
 ranked_not_after t u =
     nat_lt (ranked_meaning t).time.seconds (ranked_meaning u).time.seconds
     || ((ranked_meaning t).time.seconds == (ranked_meaning u).time.seconds && nat_le (ranked_meaning t).weight (ranked_meaning u).weight)
+
+-- how a time is written: its seconds, a space and its weight
+abbrev pub ranked_text : Ranked → List ℕ
+ranked_text t = decimal (ranked_meaning t).time.seconds ++ (codes " " ++ decimal (ranked_meaning t).weight)

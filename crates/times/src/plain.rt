@@ -1,8 +1,9 @@
-ghost use Rattle.std.specs.Prelude.{◌≡◌};
-ghost use Rattle.times.specs.Plain.{plain, plain_meaning, plain_sum, plain_not_after};
+ghost use Rattle.std.specs.Prelude.{◌≡◌, Some};
+ghost use Rattle.times.specs.Plain.{plain, plain_meaning, plain_sum, plain_not_after, plain_text};
 ghost use Rattle.times.specs.Laws.{plain_laws};
 
 use crate::time::Time;
+use std::fmt;
 
 // The last second of plain and of ranked time: no making and no sum goes past it.
 pub const LAST_SECOND: u32 = 99_999_999;
@@ -51,5 +52,14 @@ impl Time for Plain {
 
     fn not_after(self, other: Plain) -> bool {
         self.seconds() <= other.seconds()
+    }
+}
+
+impl fmt::Display for Plain {
+    ghost output = { λ t. Some (plain_text t) };
+
+    fn fmt<W: fmt::Write>(&self, f: &mut fmt::Formatter<W>) -> fmt::Result {
+        let seconds = self.seconds();
+        write!(f, "{seconds}")
     }
 }

@@ -1,9 +1,10 @@
-ghost use Rattle.std.specs.Prelude.{◌≡◌};
-ghost use Rattle.times.specs.Ranked.{weighed, ranked, ranked_meaning, ranked_sum, ranked_not_after};
+ghost use Rattle.std.specs.Prelude.{◌≡◌, Some};
+ghost use Rattle.times.specs.Ranked.{weighed, ranked, ranked_meaning, ranked_sum, ranked_not_after, ranked_text};
 ghost use Rattle.times.specs.Laws.{ranked_laws};
 
 use crate::plain::{LAST_SECOND, Plain};
 use crate::time::Time;
+use std::fmt;
 
 // The greatest weight: no making and no sum goes past it.
 pub const GREATEST_WEIGHT: u16 = 9_999;
@@ -76,5 +77,15 @@ impl Time for Ranked {
 
     fn not_after(self, other: Ranked) -> bool {
         (self.seconds(), self.weight()) <= (other.seconds(), other.weight())
+    }
+}
+
+impl fmt::Display for Ranked {
+    ghost output = { λ t. Some (ranked_text t) };
+
+    fn fmt<W: fmt::Write>(&self, f: &mut fmt::Formatter<W>) -> fmt::Result {
+        let seconds = self.seconds();
+        let weight = self.weight();
+        write!(f, "{seconds} {weight}")
     }
 }
