@@ -1,4 +1,5 @@
 pub mod Held
+pub mod Numbers
 pub mod Adding
 pub mod Taking
 pub mod TextBook

@@ -6,6 +6,7 @@ use frames::kind::Kind;
 pub mod calls;
 mod checks;
 pub mod in_memory;
+mod indices;
 mod parts;
 mod takes;
 

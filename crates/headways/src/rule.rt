@@ -49,7 +49,7 @@ impl<'a, B: Basis, K: Time> Clash for RuleBy<'a, B, K> {
         ensures rule { result ≡ clash_by (count_of self.now.book.book.now) (B.relates (entries_in self.now.book)) a b }
         ensures related { B.complete (entries_in self.now.book) → result ≡ (within (count_of self.now.book.book.now) a && (within (count_of self.now.book.book.now) b && B.relates (entries_in self.now.book) a b)) }
     {
-        let count = self.book.movements() as usize;
+        let count = usize::from(self.book.movements());
         if !is_within(count, a) || !is_within(count, b) {
             return false;
         }
@@ -67,7 +67,7 @@ impl<'a, B: Basis, K: Time> Headway for RuleBy<'a, B, K> {
             return K::zero();
         }
         match B::gap(self.book, a, b) {
-            Some(gap) => K::make(gap.gap as u32, gap.weight as u16),
+            Some(gap) => K::make(u32::from(gap.gap), u16::from(gap.weight)),
             None => K::zero(),
         }
     }

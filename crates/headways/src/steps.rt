@@ -13,7 +13,7 @@ fn marked_sections(steps: &[Step]) -> [bool; SECTIONS]
 {
     let mut marked = [false; SECTIONS];
     for step in steps {
-        marked[step.section as usize] = true;
+        marked[usize::from(step.section)] = true;
     }
     marked
 }
@@ -24,7 +24,7 @@ pub fn share_section(first: &[Step], second: &[Step]) -> bool
 {
     let marked = marked_sections(first);
     for step in second {
-        if marked[step.section as usize] {
+        if marked[usize::from(step.section)] {
             return true;
         }
     }
@@ -44,7 +44,7 @@ fn latest_releases(steps: &[Step]) -> [u16; SECTIONS]
 {
     let mut released = [0; SECTIONS];
     for step in steps {
-        let section = step.section as usize;
+        let section = usize::from(step.section);
         released[section] = released[section].max(release(step));
     }
     released
@@ -56,6 +56,6 @@ pub fn section_gap(first: &[Step], second: &[Step]) -> u16
 {
     let released = latest_releases(first);
     second.iter().fold(0u16, |gap, step| {
-        gap.max(released[step.section as usize].saturating_sub(step.set))
+        gap.max(released[usize::from(step.section)].saturating_sub(step.set))
     })
 }

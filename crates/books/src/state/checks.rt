@@ -73,11 +73,9 @@ impl Draft {
     pub(super) fn index_of(&self, movement: u8, place: usize) -> Result<usize, Fault>
         ensures { result ≡ index_check (next_line self.now.counts.lines) self.now.counts.movements movement place }
     {
-        if is_within(self.counts.movements, movement) {
-            Ok(usize::from(movement) - 1)
-        } else {
-            Err(Fault::at(Stop::NoSuchMovement, self.next_line(), place))
-        }
+        self.counts
+            .index_of(movement)
+            .ok_or(Fault::at(Stop::NoSuchMovement, self.next_line(), place))
     }
 
     // The line's length, then its kind: not below that of the last line, and not a second closing.

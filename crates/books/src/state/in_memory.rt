@@ -4,7 +4,6 @@ ghost use Rattle.books.specs.InMemory.{entries_in};
 
 use super::Book;
 use entries::memory::{Listed, Memory, Route, Step};
-use entries::movements::is_within;
 
 // A book with its memory, both lent for reading. Only a book makes one.
 #[derive(Clone, Copy)]
@@ -55,20 +54,16 @@ impl<'a> BookInMemory<'a> {
     pub fn listed(self, first: u8, second: u8) -> Option<Listed>
         ensures { result ≡ pair_at (entries_in self.entry) first second }
     {
-        let count = self.book.counts.movements;
-        if !is_within(count, first) || !is_within(count, second) {
-            return None;
-        }
-        self.memory.table[first as usize - 1][second as usize - 1]
+        let row = self.book.counts.index_of(first)?;
+        let column = self.book.counts.index_of(second)?;
+        self.memory.table[row][column]
     }
 
     // A movement as memory has it, if one has the number.
     fn route(self, movement: u8) -> Option<&'a Route>
         ensures { MatchOption result (movement_at (entries_in self.entry) movement ≡ record { priority = 0; steps = [] }) (λ route. movement_at (entries_in self.entry) movement ≡ movement_of route.now) }
     {
-        if !is_within(self.book.counts.movements, movement) {
-            return None;
-        }
-        Some(&self.memory.routes[movement as usize - 1])
+        let index = self.book.counts.index_of(movement)?;
+        Some(&self.memory.routes[index])
     }
 }
