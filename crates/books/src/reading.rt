@@ -47,6 +47,7 @@ impl Draft {
             part: characters,
         };
         let decoded = line.decode(buffer);
+        // A `?` could not give the draft back.
         match decoded_frame(number, decoded, buffer) {
             Ok(frame) => self.take(memory, frame),
             Err(fault) => Err((self, fault)),
@@ -60,6 +61,8 @@ pub fn read_book(text: &[u8], memory: &mut Memory) -> Result<Book, (Draft, BookF
     ensures faithful { Faithful text.now result memory.new }
 {
     let mut draft = Draft::begin(memory);
+
+    // A `?` could not give the draft back.
     if let Err(fault) = check_length(text) {
         return Err((draft, BookFault::from(fault)));
     }

@@ -17,7 +17,8 @@ pub struct Step {
     pub release: u16,
 }
 
-// A movement as its line gave it: its priority, and its steps, which are the first `count` of the array.
+// A movement as its line gave it: its priority, and its steps, which are the first `count` of the array. Memory is copied
+// whole, and the library's `ArrayVec` cannot be copied.
 #[derive(Clone, Copy)]
 pub struct Route {
     pub priority: u8,
@@ -45,8 +46,9 @@ pub struct Closing {
     pub window: u32,
 }
 
-// What a draft or a book holds beside its numbers; it is lent to each call. Memory is plain data: whoever lends other
-// memory has another draft, or another book.
+// What a draft or a book holds beside its numbers; it is lent to each call. Memory is plain data of a fixed size: whoever
+// lends other memory has another draft, or another book. The openings stand apart from the routes, since beginning a draft
+// empties them and leaves the routes.
 #[derive(Drop)]
 pub struct Memory {
     pub routes: [Route; MOST_MOVEMENTS],

@@ -19,6 +19,7 @@ pub enum BookFault {
     Found(Fault),
 }
 
+// Both are written out: a derived `From` has no contract.
 impl From<FrameFault> for BookFault {
     ghost from_gives = { λ e r. r ≡ InFrame e };
 

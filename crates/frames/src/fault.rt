@@ -12,6 +12,7 @@ pub enum FrameFault {
     Found(Fault),
 }
 
+// Written out: a derived `From` has no contract.
 impl From<TextFault> for FrameFault {
     ghost from_gives = { λ e r. r ≡ Text e };
 

@@ -64,7 +64,7 @@ fn write_bytes(line: &[u8], buffer: &mut [u8; MOST_BYTES]) -> usize
 
 impl Line<'_> {
     // Writes the line's bytes to the front of the buffer and answers how many they are. The buffer is written only
-    // after the whole line was checked.
+    // after the whole line was checked. Of a lent buffer that a result borrowed, a contract could not say what it holds.
     pub fn decode(self, buffer: &mut [u8; MOST_BYTES]) -> Result<usize, TextFault>
         ensures { Decoded self.entry.number self.entry.part.now buffer.old result buffer.new }
     {

@@ -32,7 +32,8 @@ impl<'a, T: Time> Row<'a, T> {
         self.times.get(index).copied()
     }
 
-    // Writes a time at an index from 0 and answers yes; outside of the row, answers no and leaves the row.
+    // Writes a time at an index from 0 and answers yes; outside of the row, answers no and leaves the row. By index: of what
+    // is written through `get_mut` a contract cannot say the values.
     pub fn set(&mut self, index: usize, time: T) -> bool
         ensures done { result ≡ nat_lt index (length self.old.times.now) }
         ensures row { self.new.times.now ≡ written self.old.times.now index time }

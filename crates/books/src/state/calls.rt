@@ -36,6 +36,7 @@ impl Draft {
     ) -> Result<Draft, (Draft, BookFault)>
         ensures { Taken (after_frame (draft_of self memory.old) (content frame.entry)) self memory.old result memory.new }
     {
+        // A `?` could not give the draft back.
         match self.take_frame(memory, frame) {
             Ok(()) => Ok(self),
             Err(fault) => Err((self, BookFault::Found(fault))),
