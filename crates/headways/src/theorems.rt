@@ -27,7 +27,6 @@ pub fn book_rules_are_lawful()
 {}
 
 // The gap by sections is the greatest difference over all sections that two movements share.
-#[tactic(auto, using(crate::proofs::Gaps::section_gap_is_greatest))]
 pub fn section_gap_is_greatest()
     ensures { SectionGapIsGreatest }
 {}
@@ -38,7 +37,6 @@ pub fn read_movements_have_steps()
 {}
 
 // Where every movement has a step, two movements clash by sections exactly when they share a section.
-#[tactic(auto, using(crate::proofs::Sharing::sharing_is_clashing))]
 pub fn sharing_is_clashing()
     ensures { SharingIsClashing }
 {}
