@@ -1,86 +1,56 @@
--- A line that is taken adds what it says, and nothing else. Assumes nothing.
-use Rattle.std.proofs.Common.{◌≡◌, ℕ, ◌+◌, ◌-◌, ◌≤◌, ◌⊎◌, List, [], ◌∷◌, ◌++◌, length, get_or, Some, None, sym, refl, ap, ◌∙◌, inl, inr, ⊎_elim, append-nil, arith}
+-- A line is added behind others: what the lines say, and the draft's entries. Assumes nothing.
+use Rattle.std.proofs.Common.{◌≡◌, ℕ, ◌+◌, ◌≤◌, ◌⊎◌, List, [], ◌∷◌, ◌++◌, length, append-nil, arith}
 use Rattle.std.specs.List.{flat_map}
-use Rattle.std.proofs.lemmas.List.{flat_map_more}
-use Rattle.frames.specs.Kinds.{pair_kind, opening_kind}
-use Rattle.frames.specs.Frames.{Content, movement, pair, opening, order_a, order_b, closing, kind_of}
-use Rattle.entries.specs.declared.memory.Listed.{Listed}
-use Rattle.entries.specs.Entries.{Entries, listed, opened}
-use Rattle.entries.specs.Giving.{given, listed_of}
-use Rattle.books.specs.Says.{Among, movement_in, runs_a_in, runs_b_in, count_up, Gives}
+use Rattle.std.proofs.lemmas.Bool.Decides.{nat_tests}
+use Rattle.std.proofs.lemmas.Grind.{common_steps}
+use Rattle.frames.specs.Frames.{Content, pair, opening}
+use Rattle.entries.specs.Entries.{Entries}
+use Rattle.entries.specs.Giving.{given}
+use Rattle.entries.specs.Checks.{passed}
+use Rattle.books.specs.Held.{Drafted}
+use Rattle.books.specs.Taking.{fields_check}
+use Rattle.books.specs.Says.{Among, count_up, Gives}
+use Rattle.entries.proofs.Tables.{Shaped, given_shaped, pair_here, pair_other, opening_here, opening_other}
 
-pub among_last : (x : Content) (cs : List Content) → Among x (cs ++ x ∷ [])
-among_last x [] = inl refl
-among_last x (c ∷ cs) = inr (among_last x cs)
+among_more : (x c : Content) (cs : List Content) → Among x cs ⊎ (x ≡ c) → Among x (cs ++ c ∷ [])
+among_more x c [] a = grind arith
+among_more x c (d ∷ cs) a = grind (arith, among_more x c cs)
 
-pub among_more : (x c : Content) (cs : List Content) → Among x cs → Among x (cs ++ c ∷ [])
-among_more x c [] a = elim a [ ]
-among_more x c (d ∷ cs) (inl e) = inl e
-among_more x c (d ∷ cs) (inr a) = inr (among_more x c cs a)
-
-pub among_split : (x c : Content) (cs : List Content) → Among x (cs ++ c ∷ []) → Among x cs ⊎ (x ≡ c)
-among_split x c [] (inl e) = inr e
-among_split x c [] (inr a) = elim a [ ]
-among_split x c (d ∷ cs) (inl e) = inl (inl e)
-among_split x c (d ∷ cs) (inr a) = ⊎_elim (λ b. inl (inr b)) inr (among_split x c cs a)
+among_split : (x c : Content) (cs : List Content) → Among x (cs ++ c ∷ []) → Among x cs ⊎ (x ≡ c)
+among_split x c [] a = grind arith
+among_split x c (d ∷ cs) a = grind (arith, among_split x c cs)
 
 pub joined_push : {X : Type 0} (f : Content → List X) (cs : List Content) (c : Content) → flat_map f (cs ++ c ∷ []) ≡ flat_map f cs ++ f c
-joined_push f cs c = sym (flat_map_more f [] cs c)
+joined_push f cs c = grind (arith, common_steps)
 
-pub count_up_push : {X : Type 0} (k : ℕ) (xs : List X) (x : X) → count_up k (xs ++ x ∷ []) ≡ count_up k xs ++ (k + length xs) ∷ []
-count_up_push k [] x = let e : k + 0 ≡ k = omega arith in ap (λ n. n ∷ []) (sym e)
-count_up_push k (y ∷ ys) x =
-    let e : k + 1 + length ys ≡ k + length (y ∷ ys) = omega arith in
-    ap (λ t. k ∷ t) (count_up_push (k + 1) ys x ∙ ap (λ n. count_up (k + 1) ys ++ n ∷ []) e)
+count_up_push : {X : Type 0} (k : ℕ) (xs : List X) (x : X) → count_up k (xs ++ x ∷ []) ≡ count_up k xs ++ (k + length xs) ∷ []
+count_up_push k [] x = grind arith
+count_up_push k (y ∷ ys) x = grind (arith, count_up_push (k + 1) ys x)
 
--- what a line adds to each list is what it says
-pub given_movements : (e : Entries) (c : Content) → (given e c).movements ≡ e.movements ++ movement_in c
-given_movements e (movement m p l s) = refl
-given_movements e (pair a b g w) = sym (append-nil e.movements)
-given_movements e (opening m s) = sym (append-nil e.movements)
-given_movements e (order_a l r) = sym (append-nil e.movements)
-given_movements e (order_b l r) = sym (append-nil e.movements)
-given_movements e (closing m w) = sym (append-nil e.movements)
+-- the entries after the lines cs, with what the next line's tests rest on
+pub record Sofar (cs : List Content) (e : Entries) : Type 0 where
+  pub gives : Gives cs e
+  pub shaped : Shaped e
+  pub few : length e.movements ≤ 64
+  pub pair_lows : (a b g w : ℕ) → Among (pair a b g w) cs → (1 ≤ a) × (1 ≤ b)
+  pub opening_lows : (m s : ℕ) → Among (opening m s) cs → 1 ≤ m
 
-pub given_a : (e : Entries) (c : Content) → (given e c).order_a ≡ e.order_a ++ runs_a_in c
-given_a e (movement m p l s) = sym (append-nil e.order_a)
-given_a e (pair a b g w) = sym (append-nil e.order_a)
-given_a e (opening m s) = sym (append-nil e.order_a)
-given_a e (order_a l r) = refl
-given_a e (order_b l r) = sym (append-nil e.order_a)
-given_a e (closing m w) = sym (append-nil e.order_a)
-
-pub given_b : (e : Entries) (c : Content) → (given e c).order_b ≡ e.order_b ++ runs_b_in c
-given_b e (movement m p l s) = sym (append-nil e.order_b)
-given_b e (pair a b g w) = sym (append-nil e.order_b)
-given_b e (opening m s) = sym (append-nil e.order_b)
-given_b e (order_a l r) = sym (append-nil e.order_b)
-given_b e (order_b l r) = refl
-given_b e (closing m w) = sym (append-nil e.order_b)
-
--- so a list of all that the lines gave stays one
-pub list_more : {X : Type 0} (f : Content → List X) (cs : List Content) (c : Content) (old new : List X) → old ≡ flat_map f cs → new ≡ old ++ f c → new ≡ flat_map f (cs ++ c ∷ [])
-list_more f cs c old new was is = is ∙ ap (λ t. t ++ f c) was ∙ sym (joined_push f cs c)
-
--- a line of another kind leaves the table, and the openings
-module _ (cs : List Content) (c : Content) (e e' : Entries) (gives : Gives cs e) where
-  pub pairs_kept : (kind_of c ≡ pair_kind → ⊥) → e'.table ≡ e.table → (a b g w : ℕ) → Among (pair a b g w) (cs ++ c ∷ []) → listed e' a b ≡ Some (listed_of g w)
-  pairs_kept other same a b g w there =
-      ⊎_elim
-      (λ before. ap (λ t. get_or (get_or t (a - 1) []) (b - 1) None) same ∙ gives.pairs a b g w before)
-      (λ is. absurd (other (ap kind_of (sym is))))
-      (among_split (pair a b g w) c cs there)
-
-  pub no_other_pairs_kept : e'.table ≡ e.table → (a b : ℕ) (l : Listed) → 1 ≤ a → 1 ≤ b → listed e' a b ≡ Some l → Among (pair a b l.gap l.weight) (cs ++ c ∷ [])
-  no_other_pairs_kept same a b l low low' is =
-      among_more _ c cs (gives.no_other_pairs a b l low low' (ap (λ t. get_or (get_or t (a - 1) []) (b - 1) None) (sym same) ∙ is))
-
-  pub openings_kept : (kind_of c ≡ opening_kind → ⊥) → e'.openings ≡ e.openings → (m s : ℕ) → Among (opening m s) (cs ++ c ∷ []) → opened e' m ≡ Some s
-  openings_kept other same m s there =
-      ⊎_elim
-      (λ before. ap (λ t. get_or t (m - 1) None) same ∙ gives.openings m s before)
-      (λ is. absurd (other (ap kind_of (sym is))))
-      (among_split (opening m s) c cs there)
-
-  pub no_other_openings_kept : e'.openings ≡ e.openings → (m s : ℕ) → 1 ≤ m → opened e' m ≡ Some s → Among (opening m s) (cs ++ c ∷ [])
-  no_other_openings_kept same m s low is = among_more _ c cs (gives.no_other_openings m s low (ap (λ t. get_or t (m - 1) None) (sym same) ∙ is))
+-- a line whose fields passed their tests
+pub sofar_more : (line : ℕ) (cs : List Content) (h : Drafted) (c : Content) → Sofar cs h.entries → fields_check line (length h.entries.movements) h c ≡ passed → Sofar (cs ++ c ∷ []) (given h.entries c)
+sofar_more line cs h c sofar ok =
+    record {
+      gives = record {
+        movements = grind (arith, joined_push, append-nil);
+        numbers = grind (arith, nat_tests, joined_push, count_up_push, append-nil);
+        runs_a = grind (arith, joined_push, append-nil);
+        runs_b = grind (arith, joined_push, append-nil);
+        pairs = λ a b g w there. grind (arith, nat_tests, among_split (pair a b g w) c cs there, pair_here, pair_other, sofar.pair_lows, sofar.gives.pairs);
+        no_other_pairs = λ a b l a_low b_low is. grind (arith, nat_tests, among_more (pair a b l.gap l.weight) c cs, pair_here, pair_other, sofar.gives.no_other_pairs);
+        openings = λ m s there. grind (arith, nat_tests, among_split (opening m s) c cs there, opening_here, opening_other, sofar.opening_lows, sofar.gives.openings);
+        no_other_openings = λ m s low is. grind (arith, nat_tests, among_more (opening m s) c cs, opening_here, opening_other, sofar.gives.no_other_openings);
+      };
+      shaped = given_shaped h.entries c sofar.shaped;
+      few = grind (arith, nat_tests, common_steps);
+      pair_lows = λ a b g w there. grind (arith, nat_tests, among_split, sofar.pair_lows);
+      opening_lows = λ m s there. grind (arith, nat_tests, among_split, sofar.opening_lows);
+    }

@@ -1,15 +1,14 @@
 -- A row of what the steps over each section come to, and the passes that read it. Assumes nothing.
-use Rattle.std.proofs.Common.{◌≡◌, ℕ, ◌-◌, max, Bool, false, List, [], ◌∷◌, get_or, replicate, refl, ◌∙◌, ⊎_elim, arith}
+use Rattle.std.proofs.Common.{◌≡◌, ℕ, ◌-◌, max, Bool, false, List, [], ◌∷◌, get_or, replicate, refl, ◌∙◌, arith}
 use Rattle.std.specs.List.{list_any, fold}
-use Rattle.std.proofs.lemmas.List.{get_or-replicate, get_or_past, length-replicate}
-use Rattle.std.proofs.lemmas.Bool.{cases_lt}
+use Rattle.std.proofs.lemmas.Grind.{common_steps}
 use Rattle.traces.specs.Clashes.{holds, meet}
 use Rattle.entries.specs.declared.memory.Step.{Step}
 use Rattle.headways.specs.Sections.{sections_of, released_on, section_gap}
 
 -- a row of one value has that value at every index, and past its end
 pub all_alike : {X : Type 0} (n i : ℕ) (x : X) → get_or (replicate n x) i x ≡ x
-all_alike n i x = ⊎_elim (get_or-replicate n i x x) (λ past. get_or_past (replicate n x) i x (omega (arith, length-replicate n x))) (cases_lt i n)
+all_alike n i x = grind (arith, common_steps)
 
 -- a row that has the marks of p tells whether q meets it
 pub meet_by_marks : (p : List ℕ) (marked : List Bool) → ((s : ℕ) → get_or marked s false ≡ holds p s) → (q : List Step) → list_any (λ (x : Step). get_or marked x.section false) q ≡ meet p (sections_of q)

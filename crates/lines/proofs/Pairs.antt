@@ -1,8 +1,7 @@
 -- A line as pairs of digits. Assumes nothing.
-use Rattle.std.proofs.Common.{◌≡◌, ℕ, zero, suc, ◌<◌, ◌+◌, ◌*◌, ◌/◌, true, List, [], ◌∷◌, length, map, get_or, sym, refl, ap, ◌∙◌, arith}
+use Rattle.std.proofs.Common.{◌≡◌, ℕ, zero, suc, ◌<◌, ◌+◌, ◌*◌, ◌/◌, true, List, [], ◌∷◌, length, map, get_or, refl, ap, arith}
 use Rattle.std.specs.List.{list_all}
 use Rattle.std.specs.Simd.{first_chunks}
-use Rattle.std.proofs.lemmas.Bool.{and_parts}
 use Rattle.lines.specs.Hex.{is_hex, nibble_of, bytes_of}
 
 abbrev pub pairs_of : List ℕ → List (List ℕ)
@@ -21,25 +20,15 @@ byte_of pair = nibble_of (get_or pair 0 0) * 16 + nibble_of (get_or pair 1 0)
 pub bytes_of_pairs : (xs : List ℕ) → bytes_of xs ≡ map byte_of (pairs_of xs)
 bytes_of_pairs [] = refl
 bytes_of_pairs (x ∷ []) = refl
-bytes_of_pairs (x ∷ y ∷ xs) = ap (λ t. byte_of (x ∷ y ∷ []) ∷ t) (bytes_of_pairs xs) ∙ ap (map byte_of) (sym (pair_more x y xs))
+bytes_of_pairs (x ∷ y ∷ xs) = rw (pair_more x y xs, bytes_of_pairs xs) refl
 
 -- both characters of a pair are digits
 pub record BothDigits (pair : List ℕ) : Type 0 where
   pub high : is_hex (get_or pair 0 0) ≡ true
   pub low : is_hex (get_or pair 1 0) ≡ true
 
-pub record FirstDigits (x y : ℕ) (xs : List ℕ) : Type 0 where
-  pub first : BothDigits (x ∷ y ∷ [])
-  pub rest : list_all is_hex xs ≡ true
-
-pub first_digits : (x y : ℕ) (xs : List ℕ) → list_all is_hex (x ∷ y ∷ xs) ≡ true → FirstDigits x y xs
-first_digits x y xs all =
-    let one = and_parts (is_hex x) (list_all is_hex (y ∷ xs)) all in
-    let two = and_parts (is_hex y) (list_all is_hex xs) one.1 in
-    record { first = record { high = one.0; low = two.0 }; rest = two.1 }
-
 pub pairs_digits : (xs : List ℕ) (i : ℕ) → list_all is_hex xs ≡ true → i < length xs / 2 → BothDigits (get_or (pairs_of xs) i [])
 pairs_digits [] i all inside = absurd (omega arith)
 pairs_digits (x ∷ []) i all inside = absurd (omega arith)
-pairs_digits (x ∷ y ∷ xs) zero all inside = rw (pair_more x y xs) (first_digits x y xs all).first
-pairs_digits (x ∷ y ∷ xs) (suc i) all inside = rw (pair_more x y xs) (pairs_digits xs i (first_digits x y xs all).rest (omega arith))
+pairs_digits (x ∷ y ∷ xs) zero all inside = rw (pair_more x y xs) (record { high = grind arith; low = grind arith })
+pairs_digits (x ∷ y ∷ xs) (suc i) all inside = rw (pair_more x y xs) (pairs_digits xs i (grind arith) (omega arith))

@@ -1,4 +1,4 @@
-use Rattle.std.proofs.Common.{rules, tests, ◌≡◌, Bool, true, false, ◌&&◌, List, [], ◌∷◌, refl, ◌∙◌}
+use Rattle.std.proofs.Common.{rules, tests, ◌≡◌, Bool, true, ◌&&◌, List, [], ◌∷◌, ◌∙◌, arith}
 use Rattle.std.specs.List.{fold, list_all}
 use Rattle.std.proofs.lemmas.Iterator.{YieldsList-from_slice}
 use Rattle.std.proofs.lemmas.Iterator.Consumers.{fold_from_yields_List}
@@ -6,10 +6,8 @@ use Rattle.lines.specs.Hex.{is_hex}
 use Rattle.lines.proofs.hex.all_hex.Goals as goal
 
 folded_all : {X : Type 0} (p : X → Bool) (all : Bool) (xs : List X) → fold (λ a x. a && p x) all xs ≡ (all && list_all p xs)
-folded_all p true [] = refl
-folded_all p false [] = refl
-folded_all p true (x ∷ xs) = folded_all p (p x) xs
-folded_all p false (x ∷ xs) = folded_all p false xs
+folded_all p all [] = grind arith
+folded_all p all (x ∷ xs) = grind (arith, folded_all p (all && p x) xs)
 
 pub returns : goal.returns
 returns c =

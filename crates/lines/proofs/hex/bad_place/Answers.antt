@@ -1,10 +1,11 @@
-use Rattle.std.proofs.Common.{rules, tests, ◌≡◌, ℕ, ◌+◌, Bool, true, not, List, [], ◌∷◌, None, position, sym, refl, ap, ◌∙◌, arith}
-use Rattle.std.specs.List.{list_all, position_from}
+use Rattle.std.proofs.Common.{rules, tests, ◌≡◌, ℕ, ◌+◌, Bool, not, List, [], ◌∷◌, position, refl, ap, ◌∙◌, arith}
+use Rattle.std.specs.List.{position_from}
 use Rattle.std.specs.Option.{option_map}
 use Rattle.std.proofs.lemmas.Iterator.{YieldsList-from_slice}
 use Rattle.std.proofs.lemmas.Iterator.Search.{position_from_yields_List}
 use Rattle.std.proofs.lemmas.Iterator.Adapters.{position_from-zero}
 use Rattle.lines.specs.Hex.{is_hex}
+use Rattle.lines.proofs.Digits.{all_or_place}
 use Rattle.lines.proofs.hex.bad_place.Goals as goal
 
 -- a count that begins one later finds a place one later
@@ -12,13 +13,8 @@ place_on : {X : Type 0} (p : X → Bool) (at : ℕ) (xs : List X) → option_map
 place_on p at [] = refl
 place_on p at (x ∷ xs) = grind (arith, place_on p (at + 1) xs)
 
--- where all are digits no place is bad
-none_bad : (at : ℕ) (xs : List ℕ) → list_all is_hex xs ≡ true → position_from (λ x. not (is_hex x)) at xs ≡ None
-none_bad at [] e = refl
-none_bad at (x ∷ xs) e = let more = none_bad (at + 1) xs in grind (arith, more)
-
 pub returns-then-all_hex : goal.returns-then-all_hex
-returns-then-all_hex c = sym (none_bad 1 c.args.line.now (sym c.if-all_hex.ensures))
+returns-then-all_hex c = grind (arith, all_or_place 1 c.args.line.now)
 
 pub returns : goal.returns
 returns c =
