@@ -62,7 +62,7 @@ pub fn read_book(text: &[u8], memory: &mut Memory) -> Result<Book, (Draft, BookF
 {
     let mut draft = Draft::begin(memory);
 
-    // A `?` could not give the draft back.
+    // With the draft begun in a closure of `map_err`, nothing is known of the memory that the closure wrote to.
     if let Err(fault) = check_length(text) {
         return Err((draft, BookFault::from(fault)));
     }

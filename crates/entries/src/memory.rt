@@ -17,8 +17,8 @@ pub struct Step {
     pub release: u16,
 }
 
-// A movement as its line gave it: its priority, and its steps, which are the first `count` of the array. Memory is copied
-// whole, and the library's `ArrayVec` cannot be copied.
+// A movement as its line gave it: its priority, and its steps, which are the first `count` of the array. A route is
+// plain data that is copied, as an `ArrayVec` of the library cannot be.
 #[derive(Clone, Copy)]
 pub struct Route {
     pub priority: u8,

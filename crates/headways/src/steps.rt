@@ -19,7 +19,7 @@ fn marked_sections(steps: &[Step]) -> [bool; SECTIONS]
     marked
 }
 
-// Whether two movements have a section in common, by their steps. A loop: as `any` the question costs 4 % more.
+// Whether two movements have a section in common, by their steps. A loop: as `any` the question costs 4 to 6 % more.
 pub fn share_section(first: &[Step], second: &[Step]) -> bool
     ensures { result ≡ meet (sections_of first.now) (sections_of second.now) }
 {

@@ -18,16 +18,15 @@ fn is_hex(c: u8) -> bool
     matches!(c, b'0'..=b'9' | b'A'..=b'F')
 }
 
-// What a digit stands for.
-fn nibble(digit: u8) -> u8
-    requires { is_hex digit ≡ true }
-    ensures value { result ≡ nibble_of digit }
+// What a digit stands for; 0 for any other character.
+fn nibble(c: u8) -> u8
+    ensures value { result ≡ nibble_of c }
     ensures small { result < 16 }
 {
-    if digit <= b'9' {
-        digit - b'0'
-    } else {
-        digit - b'A' + 10
+    match c {
+        b'0'..=b'9' => c - b'0',
+        b'A'..=b'F' => c - b'A' + 10,
+        _ => 0,
     }
 }
 
@@ -50,8 +49,7 @@ fn bad_place(line: &[u8]) -> Option<usize>
 
 // Writes the line's bytes to the buffer's front and answers how many they are: two digits make a byte, the high one first.
 fn write_bytes(line: &[u8], buffer: &mut [u8; MOST_BYTES]) -> usize
-    requires short { length line.now ≤ 246 }
-    requires digits { list_all is_hex line.now ≡ true }
+    requires { length (bytes_of line.now) ≤ 123 }
     ensures count { result ≡ length (bytes_of line.now) }
     ensures spelt { Spelt line.now buffer.old buffer.new }
 {

@@ -70,12 +70,14 @@ impl Draft {
     }
 
     // The index of a movement of the draft; or the fault of the line that names another number at the place.
-    pub(super) fn index_of(&self, movement: u8, place: usize) -> Result<usize, Fault>
+    pub(super) fn find_movement(&self, movement: u8, place: usize) -> Result<usize, Fault>
         ensures { result ≡ index_check (next_line self.now.counts.lines) self.now.counts.movements movement place }
     {
-        self.counts
-            .index_of(movement)
-            .ok_or(Fault::at(Stop::NoSuchMovement, self.next_line(), place))
+        self.counts.index_of(movement).ok_or_else(|| Fault::at(
+            Stop::NoSuchMovement,
+            self.next_line(),
+            place,
+        ))
     }
 
     // The line's length, then its kind: not below that of the last line, and not a second closing.

@@ -28,7 +28,7 @@ const HIGHEST_WEIGHT: u8 = 9;
 // The longest window, in seconds.
 const LONGEST_WINDOW: u32 = 86_400;
 
-// Each function tests the fields of one kind of line, and only then writes anything.
+// Taking a line: its fields are tested, and only then is anything written.
 impl Draft {
     // A movement: there is room for it, its number is the next, its priority is in bounds, and its steps are.
     fn take_movement(
@@ -69,8 +69,8 @@ impl Draft {
         ensures { FieldsTaken (pair first second listed.gap listed.weight) self.old memory.old result self.new memory.new }
     {
         let line = self.next_line();
-        let row = self.index_of(first, MOVEMENT_PLACE)?;
-        let column = self.index_of(second, SECOND_PLACE)?;
+        let row = self.find_movement(first, MOVEMENT_PLACE)?;
+        let column = self.find_movement(second, SECOND_PLACE)?;
         if memory.table[row][column].is_some() {
             return Err(Fault::at(Stop::GivenBefore, line, SECOND_PLACE));
         }
@@ -85,7 +85,7 @@ impl Draft {
     fn take_opening(&mut self, memory: &mut Memory, movement: u8, seconds: u32) -> Result<(), Fault>
         ensures { FieldsTaken (opening movement seconds) self.old memory.old result self.new memory.new }
     {
-        let index = self.index_of(movement, MOVEMENT_PLACE)?;
+        let index = self.find_movement(movement, MOVEMENT_PLACE)?;
         if memory.openings[index].is_some() {
             return Err(Fault::at(Stop::GivenBefore, self.next_line(), MOVEMENT_PLACE));
         }
@@ -108,7 +108,7 @@ impl Draft {
     fn take_closing(&mut self, line: Closing) -> Result<(), Fault>
         ensures { (memory : Memory) → FieldsTaken (closing line.movement line.window) self.old memory result self.new memory }
     {
-        self.index_of(line.movement, MOVEMENT_PLACE)?;
+        self.find_movement(line.movement, MOVEMENT_PLACE)?;
         if line.window < 1 || line.window > LONGEST_WINDOW {
             return Err(Fault::at(Stop::OutOfRange, self.next_line(), WINDOW_PLACE));
         }

@@ -1,16 +1,12 @@
-use Rattle.std.proofs.Common.{◌≡◌, length, map, ap, sym, ◌∙◌, arith}
+use Rattle.std.proofs.Common.{◌≡◌, length, map, refl, ap, sym, ◌∙◌, arith}
 use Rattle.std.proofs.lemmas.List.{take_all, length-map}
 use Rattle.lines.specs.Hex.{bytes_of}
-use Rattle.lines.proofs.Pairs.{byte_of, bytes_of_pairs, pairs_digits}
+use Rattle.lines.proofs.Digits.{bytes_half}
+use Rattle.lines.proofs.Pairs.{byte_of, bytes_of_pairs}
 use Rattle.lines.proofs.hex.write_bytes.Goals as goal
 
-pub nibble-requires : goal.nibble-requires
-nibble-requires c =
-    let both = pairs_digits c.args.line.now c.loop-i.i c.requires.digits (omega arith) in rw c.as_chunks.ensures.front both.high
-
-pub nibble-requires-in-loop-i : goal.nibble-requires-in-loop-i
-nibble-requires-in-loop-i c =
-    let both = pairs_digits c.args.line.now c.loop-i.i c.requires.digits (omega arith) in rw c.as_chunks.ensures.front both.low
+pub loop-i-init : goal.loop-i-init
+loop-i-init c = record { front = refl; short = omega (arith, c.as_chunks.ensures.front_len, bytes_half c.args.line.now, c.requires); back = refl }
 
 pub returns : goal.returns
 returns c =

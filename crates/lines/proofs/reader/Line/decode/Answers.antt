@@ -4,8 +4,8 @@ use Rattle.lines.specs.Hex.{bad_place, bytes_of}
 use Rattle.lines.proofs.Digits.{bytes_half, digits_bytes, all_or_place}
 use Rattle.lines.proofs.reader.Line.decode.Goals as goal
 
-pub write_bytes-requires-clause-digits : goal.write_bytes-requires-clause-digits
-write_bytes-requires-clause-digits c = cc (all_or_place 1 c.args.self.part.now)
+pub write_bytes-requires : goal.write_bytes-requires
+write_bytes-requires c = omega (arith, bytes_half c.args.self.part.now)
 
 pub returns : goal.returns
 returns c =
