@@ -24,10 +24,10 @@ pub trait Basis {
     ghost itself: { (e : Entries) → complete e → (a : ℕ) → within (length e.movements) a ≡ true → relates e a a ≡ true };
 
     // Whether two movements are related.
-    fn relates(book: BookInMemory<'_>, a: u8, b: u8) -> bool
+    fn relates(book: BookInMemory<'_, '_>, a: u8, b: u8) -> bool
         ensures { result ≡ relates (entries_in book.entry) a b };
 
     // The gap of an ordered pair, in seconds and with a weight.
-    fn gap(book: BookInMemory<'_>, a: u8, b: u8) -> Option<Listed>
+    fn gap(book: BookInMemory<'_, '_>, a: u8, b: u8) -> Option<Listed>
         ensures { result ≡ gap (entries_in book.entry) a b };
 }

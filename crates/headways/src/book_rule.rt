@@ -7,7 +7,9 @@ use rules::union::Union;
 use times::time::Time;
 
 // The rule of a book: its sections joined with its table.
-pub fn book_rule<'a, K: Time>(book: BookInMemory<'a>) -> Union<BySections<'a, K>, ByTable<'a, K>>
+pub fn book_rule<'a, K: Time>(
+    book: BookInMemory<'a, 'a>,
+) -> Union<BySections<'a, K>, ByTable<'a, K>>
     ensures sections { result.first.book ≡ book.entry }
     ensures table { result.second.book ≡ book.entry }
 {

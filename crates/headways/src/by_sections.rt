@@ -26,11 +26,11 @@ impl Basis for Sections {
 
     ghost itself = { shares_itself };
 
-    fn relates(book: BookInMemory<'_>, a: u8, b: u8) -> bool {
+    fn relates(book: BookInMemory<'_, '_>, a: u8, b: u8) -> bool {
         share_section(book.steps(a), book.steps(b))
     }
 
-    fn gap(book: BookInMemory<'_>, a: u8, b: u8) -> Option<Listed> {
+    fn gap(book: BookInMemory<'_, '_>, a: u8, b: u8) -> Option<Listed> {
         Some(Listed {
             gap: section_gap(book.steps(a), book.steps(b)),
             weight: book.priority(a),

@@ -26,11 +26,11 @@ impl Basis for Table {
 
     ghost itself = { lists_itself };
 
-    fn relates(book: BookInMemory<'_>, a: u8, b: u8) -> bool {
+    fn relates(book: BookInMemory<'_, '_>, a: u8, b: u8) -> bool {
         book.listed(a, b).is_some() || book.listed(b, a).is_some()
     }
 
-    fn gap(book: BookInMemory<'_>, a: u8, b: u8) -> Option<Listed> {
+    fn gap(book: BookInMemory<'_, '_>, a: u8, b: u8) -> Option<Listed> {
         book.listed(a, b)
     }
 }

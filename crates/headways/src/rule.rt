@@ -16,14 +16,14 @@ use times::time::Time;
 // with itself. Only a book makes such a rule, which holds the book with its memory, both lent for reading.
 #[derive(Clone, Copy)]
 pub struct RuleBy<'a, B, K> {
-    book: BookInMemory<'a>,
+    book: BookInMemory<'a, 'a>,
     basis: PhantomData<B>,
     kind: PhantomData<K>,
 }
 
 impl<'a, B: Basis, K: Time> RuleBy<'a, B, K> {
     // The rule of a book with its memory.
-    pub fn of(book: BookInMemory<'a>) -> RuleBy<'a, B, K>
+    pub fn of(book: BookInMemory<'a, 'a>) -> RuleBy<'a, B, K>
         ensures { result.book ≡ book.entry }
     {
         RuleBy {

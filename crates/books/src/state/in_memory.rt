@@ -7,14 +7,14 @@ use entries::memory::{Listed, Memory, Route, Step};
 
 // A book with its memory, both lent for reading. Only a book makes one.
 #[derive(Clone, Copy)]
-pub struct BookInMemory<'a> {
-    book: &'a Book,
-    memory: &'a Memory,
+pub struct BookInMemory<'b, 'm> {
+    book: &'b Book,
+    memory: &'m Memory,
 }
 
 impl Book {
     // The book with a memory that is lent to it.
-    pub fn in_memory<'a>(&'a self, memory: &'a Memory) -> BookInMemory<'a>
+    pub fn in_memory<'b, 'm>(&'b self, memory: &'m Memory) -> BookInMemory<'b, 'm>
         ensures book { result.book.now ≡ self.now }
         ensures memory { result.memory.now ≡ memory.now }
     {
@@ -22,7 +22,7 @@ impl Book {
     }
 }
 
-impl<'a> BookInMemory<'a> {
+impl<'b, 'm> BookInMemory<'b, 'm> {
     // How many movements the book has, 1 to 64.
     pub fn movements(self) -> u8
         ensures { result ≡ self.entry.book.now.counts.movements }
@@ -31,7 +31,7 @@ impl<'a> BookInMemory<'a> {
     }
 
     // The steps of a movement; none for a number that no movement has.
-    pub fn steps(self, movement: u8) -> &'a [Step]
+    pub fn steps(self, movement: u8) -> &'m [Step]
         ensures { result.now ≡ (movement_at (entries_in self.entry) movement).steps }
     {
         match self.route(movement) {
@@ -60,7 +60,7 @@ impl<'a> BookInMemory<'a> {
     }
 
     // A movement as memory has it, if one has the number.
-    fn route(self, movement: u8) -> Option<&'a Route>
+    fn route(self, movement: u8) -> Option<&'m Route>
         ensures { MatchOption result (movement_at (entries_in self.entry) movement ≡ record { priority = 0; steps = [] }) (λ route. movement_at (entries_in self.entry) movement ≡ movement_of route.now) }
     {
         let index = self.book.counts.index_of(movement)?;
