@@ -1,6 +1,6 @@
-ghost use Rattle.std.specs.Prelude.{◌≡◌};
+ghost use Rattle.std.specs.Prelude.{◌≡◌, ℕ};
 ghost use Rattle.frames.specs.Kinds.{kind_number, steps_length};
-ghost use Rattle.frames.specs.Frames.{content, kind_in, meant, by_kind, frame_of, unknown_fault, length_fault};
+ghost use Rattle.frames.specs.Frames.{content, kind_in, meant, by_kind, frame_of, unknown_fault, length_fault, or_length_fault};
 
 use crate::fault::FrameFault;
 use crate::fields::{three, two};
@@ -99,15 +99,15 @@ impl<'a> Frame<'a> {
         }
     }
 
-    // The frame of a line of the kind, where its length is one of the kind.
-    fn of_kind(kind: Kind, line: usize, bytes: &'a [u8]) -> Result<Frame<'a>, FrameFault>
-        ensures { meant result ≡ by_kind line bytes.now (kind_number kind) }
+    // The frame of a line of the kind; none where its length is not one of the kind.
+    fn of_kind(kind: Kind, bytes: &'a [u8]) -> Option<Frame<'a>>
+        ensures { (line : ℕ) → or_length_fault line bytes.now result ≡ by_kind line bytes.now (kind_number kind) }
     {
         match (kind, bytes) {
             (Kind::Movement, &[_, number, priority, ref steps @ ..])
                 if are_whole_steps(steps.len()) => {
                 let steps = Part::at(STEPS_PLACE, steps);
-                Ok(Frame::Movement {
+                Some(Frame::Movement {
                     number,
                     priority,
                     steps,
@@ -115,7 +115,7 @@ impl<'a> Frame<'a> {
             }
             (Kind::Pair, &[_, first, second, g1, g0, weight]) => {
                 let gap = two(g1, g0);
-                Ok(Frame::Pair {
+                Some(Frame::Pair {
                     first,
                     second,
                     gap,
@@ -124,19 +124,19 @@ impl<'a> Frame<'a> {
             }
             (Kind::Opening, &[_, movement, s2, s1, s0]) => {
                 let seconds = three(s2, s1, s0);
-                Ok(Frame::Opening { movement, seconds })
+                Some(Frame::Opening { movement, seconds })
             }
-            (Kind::OrderA, [_, runs @ ..]) if !runs.is_empty() => Ok(Frame::OrderA(Part::at(
+            (Kind::OrderA, [_, runs @ ..]) if !runs.is_empty() => Some(Frame::OrderA(Part::at(
                 RUNS_PLACE, runs,
             ))),
-            (Kind::OrderB, [_, runs @ ..]) if !runs.is_empty() => Ok(Frame::OrderB(Part::at(
+            (Kind::OrderB, [_, runs @ ..]) if !runs.is_empty() => Some(Frame::OrderB(Part::at(
                 RUNS_PLACE, runs,
             ))),
             (Kind::Closing, &[_, movement, w2, w1, w0]) => {
                 let window = three(w2, w1, w0);
-                Ok(Frame::Closing { movement, window })
+                Some(Frame::Closing { movement, window })
             }
-            _ => Err(wrong_length(line, bytes)),
+            _ => None,
         }
     }
 
@@ -148,6 +148,6 @@ impl<'a> Frame<'a> {
             return Err(unknown_kind(line));
         };
         let kind = Kind::try_from(*first).map_err(|_| unknown_kind(line))?;
-        Frame::of_kind(kind, line, bytes)
+        Frame::of_kind(kind, bytes).ok_or(wrong_length(line, bytes))
     }
 }
