@@ -18,15 +18,19 @@ fn is_hex(c: u8) -> bool
     matches!(c, b'0'..=b'9' | b'A'..=b'F')
 }
 
-// What a digit stands for; 0 for any other character.
+// What a digit stands for; 0 for any other character. Worked out by numbers, which costs less than by cases.
 fn nibble(c: u8) -> u8
     ensures value { result ≡ nibble_of c }
     ensures small { result < 16 }
 {
-    match c {
-        b'0'..=b'9' => c - b'0',
-        b'A'..=b'F' => c - b'A' + 10,
-        _ => 0,
+    let decimal = c.wrapping_sub(b'0');
+    let letter = c.wrapping_sub(b'A');
+    if decimal < 10 {
+        decimal
+    } else if letter < 6 {
+        letter + 10
+    } else {
+        0
     }
 }
 
