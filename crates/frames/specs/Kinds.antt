@@ -1,5 +1,5 @@
 -- The kinds of line and the lengths that each has. Assumes nothing.
-use Rattle.std.specs.Prelude.{ℕ, ◌-◌, ◌%◌, Bool, cond, ◌&&◌, Ok, Err, Result, ◌==◌, nat_le}
+use Rattle.std.specs.Prelude.{◌≡◌, ℕ, ◌-◌, ◌%◌, ◌<◌, ◌⊎◌, Bool, ◌&&◌, Ok, Err, Result, ◌==◌, nat_le}
 use Rattle.frames.specs.declared.kind.Kind.{Kind}
 use Rattle.frames.specs.declared.kind.Kind.TheVariants.{Movement, Pair, Opening, OrderA, OrderB, Closing}
 use Rattle.frames.specs.declared.kind.UnknownKind.{UnknownKind}
@@ -32,16 +32,10 @@ kind_number OrderA = order_a_kind
 kind_number OrderB = order_b_kind
 kind_number Closing = closing_kind
 
--- the kind of a number, or the number where it is that of no kind
-abbrev pub kind_named : ℕ → Result Kind UnknownKind
-kind_named b =
-    cond (b == movement_kind) (Ok Movement)
-    (cond (b == pair_kind) (Ok Pair)
-    (cond (b == opening_kind) (Ok Opening)
-    (cond (b == order_a_kind) (Ok OrderA)
-    (cond (b == order_b_kind) (Ok OrderB)
-    (cond (b == closing_kind) (Ok Closing)
-    (Err (record { 0 = b })))))))
+-- what a number is read as: the kind whose number it is, or the number itself where it is that of no kind
+abbrev pub NamesKind : ℕ → Result Kind UnknownKind → Type 0
+NamesKind b (Ok k) = kind_number k ≡ b
+NamesKind b (Err e) = (e.0 ≡ b) × ((b < movement_kind) ⊎ (closing_kind < b))
 
 -- five bytes for each of 1 to 24 steps
 abbrev pub steps_length : ℕ → Bool

@@ -1,5 +1,5 @@
 ghost use Rattle.std.specs.Prelude.{◌≡◌};
-ghost use Rattle.frames.specs.Kinds.{kind_number, kind_named};
+ghost use Rattle.frames.specs.Kinds.{kind_number, NamesKind};
 
 // The kinds of line, in the order in which a book has them. The first byte of a line is the number of its kind.
 #[derive(Clone, Copy, PartialEq, Eq, PartialOrd, Ord, Debug)]
@@ -28,7 +28,7 @@ impl Kind {
 impl TryFrom<u8> for Kind {
     type Error = UnknownKind;
 
-    ghost try_from_gives = { λ byte r. r ≡ kind_named byte };
+    ghost try_from_gives = { NamesKind };
 
     fn try_from(byte: u8) -> Result<Kind, UnknownKind> {
         match byte {
