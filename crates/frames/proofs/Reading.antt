@@ -1,19 +1,13 @@
 -- How a line's first byte and its length decide what it is read as. Assumes nothing.
-use Rattle.std.proofs.Common.{◌≡◌, ℕ, ◌≤◌, List, [], ◌∷◌, length, get_or, Some, None, Ok, Option, Result, refl, arith}
-use Rattle.std.specs.Option.{ok_or}
-use Rattle.frames.specs.declared.frame.Frame.{Frame}
+use Rattle.std.proofs.Common.{◌≡◌, ℕ, ◌≤◌, List, [], ◌∷◌, length, get_or, Ok, Result, refl, arith}
 use Rattle.frames.specs.declared.kind.Kind.{Kind}
 use Rattle.frames.specs.declared.kind.UnknownKind.{UnknownKind}
 use Rattle.frames.specs.Kinds.{kind_number, NamesKind}
-use Rattle.frames.specs.Frames.{meant, by_kind, frame_of, length_fault, or_length_fault}
+use Rattle.frames.specs.Frames.{by_kind, frame_of}
 
 pub first_names : (line : ℕ) (bs : List ℕ) → 1 ≤ length bs → frame_of line bs ≡ by_kind line bs (get_or bs 0 0)
 first_names line [] h = absurd (omega arith)
 first_names line (k ∷ bs) h = refl
-
-pub meant_or_fault : (line : ℕ) (bs : List ℕ) (o : Option Frame) → meant (ok_or o (length_fault line bs)) ≡ or_length_fault line bs o
-meant_or_fault line bs (Some f) = refl
-meant_or_fault line bs None = refl
 
 pub named_kind : (b : ℕ) (r : Result Kind UnknownKind) (k : Kind) → NamesKind b r → r ≡ Ok k → kind_number k ≡ b
 named_kind b r k n e = rw e at n

@@ -1,5 +1,5 @@
 -- What the bytes of a line say. Assumes nothing.
-use Rattle.std.specs.Prelude.{ℕ, ◌+◌, ◌*◌, Bool, cond, List, [], ◌∷◌, length, drop, Some, None, Ok, Err, Option, Result, ◌==◌, slice_index}
+use Rattle.std.specs.Prelude.{ℕ, ◌+◌, ◌*◌, Bool, cond, List, [], ◌∷◌, length, drop, Ok, Err, Result, ◌==◌, slice_index}
 use Rattle.stops.specs.declared.Stop.{Stop}
 use Rattle.stops.specs.declared.Stop.TheVariants.{UnknownKind, WrongLength}
 use Rattle.stops.specs.Stops.{fault}
@@ -76,11 +76,6 @@ unknown_fault line = frame_fault UnknownKind line 1
 -- the place of a wrong length is the last byte
 abbrev pub length_fault : ℕ → List ℕ → FrameFault
 length_fault line bs = frame_fault WrongLength line (length bs)
-
--- what a frame says, or that the line is not of a length of its kind
-abbrev pub or_length_fault : ℕ → List ℕ → Option Frame → Result Content FrameFault
-or_length_fault line bs (Some f) = Ok (content f)
-or_length_fault line bs None = Err (length_fault line bs)
 
 -- what a line of a known kind says, where its length is one of the kind
 abbrev pub sized : ℕ → List ℕ → (ℕ → Bool) → Content → Result Content FrameFault

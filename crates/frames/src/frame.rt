@@ -1,6 +1,6 @@
-ghost use Rattle.std.specs.Prelude.{◌≡◌, ℕ};
+ghost use Rattle.std.specs.Prelude.{◌≡◌};
 ghost use Rattle.frames.specs.Kinds.{kind_number, steps_length};
-ghost use Rattle.frames.specs.Frames.{content, kind_in, meant, by_kind, frame_of, unknown_fault, length_fault, or_length_fault};
+ghost use Rattle.frames.specs.Frames.{content, kind_in, meant, by_kind, frame_of, unknown_fault, length_fault};
 
 use crate::fault::FrameFault;
 use crate::fields::{three, two};
@@ -99,45 +99,47 @@ impl<'a> Frame<'a> {
         }
     }
 
-    // The frame of a line of the kind; none where its length is not one of the kind.
-    fn of_kind(kind: Kind, bytes: &'a [u8]) -> Option<Frame<'a>>
-        ensures { (line : ℕ) → or_length_fault line bytes.now result ≡ by_kind line bytes.now (kind_number kind) }
+    // The frame of a line of the kind; a fault where its length is not one of the kind. Each kind returns by itself: where
+    // the arms of the match meet, the frame is moved once more, which costs half as much again.
+    fn of_kind(line: usize, kind: Kind, bytes: &'a [u8]) -> Result<Frame<'a>, FrameFault>
+        ensures { meant result ≡ by_kind line bytes.now (kind_number kind) }
     {
         match (kind, bytes) {
             (Kind::Movement, &[_, number, priority, ref steps @ ..])
                 if are_whole_steps(steps.len()) => {
                 let steps = Part::at(STEPS_PLACE, steps);
-                Some(Frame::Movement {
+                return Ok(Frame::Movement {
                     number,
                     priority,
                     steps,
-                })
+                });
             }
             (Kind::Pair, &[_, first, second, g1, g0, weight]) => {
                 let gap = two(g1, g0);
-                Some(Frame::Pair {
+                return Ok(Frame::Pair {
                     first,
                     second,
                     gap,
                     weight,
-                })
+                });
             }
             (Kind::Opening, &[_, movement, s2, s1, s0]) => {
                 let seconds = three(s2, s1, s0);
-                Some(Frame::Opening { movement, seconds })
+                return Ok(Frame::Opening { movement, seconds });
             }
-            (Kind::OrderA, [_, runs @ ..]) if !runs.is_empty() => Some(Frame::OrderA(Part::at(
-                RUNS_PLACE, runs,
-            ))),
-            (Kind::OrderB, [_, runs @ ..]) if !runs.is_empty() => Some(Frame::OrderB(Part::at(
-                RUNS_PLACE, runs,
-            ))),
+            (Kind::OrderA, [_, runs @ ..]) if !runs.is_empty() => {
+                return Ok(Frame::OrderA(Part::at(RUNS_PLACE, runs)));
+            }
+            (Kind::OrderB, [_, runs @ ..]) if !runs.is_empty() => {
+                return Ok(Frame::OrderB(Part::at(RUNS_PLACE, runs)));
+            }
             (Kind::Closing, &[_, movement, w2, w1, w0]) => {
                 let window = three(w2, w1, w0);
-                Some(Frame::Closing { movement, window })
+                return Ok(Frame::Closing { movement, window });
             }
-            _ => None,
+            _ => {}
         }
+        Err(wrong_length(line, bytes))
     }
 
     // The frame of a line's bytes.
@@ -148,6 +150,6 @@ impl<'a> Frame<'a> {
             return Err(unknown_kind(line));
         };
         let kind = Kind::try_from(*first).map_err(|_| unknown_kind(line))?;
-        Frame::of_kind(kind, bytes).ok_or(wrong_length(line, bytes))
+        Frame::of_kind(line, kind, bytes)
     }
 }
