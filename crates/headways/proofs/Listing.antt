@@ -1,12 +1,14 @@
 -- The table of a book is the table of its lines. Assumes nothing.
 use Rattle.std.proofs.Common.{◌≡◌, ℕ, true, ◌⊎◌, ◌↔◌, List, length, Some, None, arith}
 use Rattle.std.proofs.lemmas.Bool.Decides.{nat_tests}
-use Rattle.std.proofs.lemmas.Grind.{common_steps}
 use Rattle.traces.specs.Clashes.{within, clash_by, either_way}
 use Rattle.frames.specs.Frames.{pair}
 use Rattle.entries.specs.declared.memory.Listed.{Listed}
 use Rattle.entries.specs.Entries.{Entries, pair_at}
 use Rattle.entries.specs.Giving.{listed_of}
+use Rattle.entries.specs.declared.memory.Memory.{Memory}
+use Rattle.entries.proofs.Numbered.{length_movements}
+use Rattle.books.specs.declared.state.Book.{Book}
 use Rattle.books.specs.Says.{Among, Gives}
 use Rattle.frames.specs.Frames.{Content}
 use Rattle.headways.specs.Rules.{count_of, held, listing, Lists, TableIsOfItsLines}
@@ -35,10 +37,14 @@ module _ (cs : List Content) (e : Entries) (n : ℕ) (count : length e.movements
     λ way. grind (arith, nat_tests, lists_listing a b, lists_listing b a),
   )
 
+-- a book has as many movements as it counts
+pub held_count : (book : Book) (memory : Memory) → length (held book memory).movements ≡ count_of book
+held_count book memory = length_movements book.counts.movements book.counts.runs_a book.counts.runs_b memory (omega (arith, book.counts.few, memory.long))
+
 pub table_is_of_its_lines : TableIsOfItsLines
 table_is_of_its_lines text book memory h =
     let e = held book memory in
-    let count : length e.movements ≡ count_of book = grind (arith, common_steps, book.counts.few, memory.long) in
+    let count = held_count book memory in
     let gives = h.says.gives in
     record {
       clashes = clashes h.contents e (count_of book) count gives;

@@ -2,7 +2,6 @@
 use Rattle.std.proofs.Common.{◌≡◌, ℕ, ◌+◌, ◌<◌, ◌≤◌, true, List, [], ◌∷◌, length, Ok, Result, ap, ◌∙◌, arith}
 use Rattle.std.specs.List.{AllByRecursion, flat_map}
 use Rattle.std.proofs.lemmas.Bool.Decides.{nat_tests}
-use Rattle.std.proofs.lemmas.Grind.{common_steps}
 use Rattle.std.proofs.ByRecursion.{All-append}
 use Rattle.std.proofs.lemmas.List.{length-drop}
 use Rattle.traces.specs.Clashes.{within}
@@ -14,6 +13,7 @@ use Rattle.entries.specs.Giving.{steps_of}
 use Rattle.books.specs.Says.{movement_in, ReadAs}
 use Rattle.headways.specs.Rules.{count_of, held, sharing, HasStep, ReadMovementsHaveSteps, SharingIsClashing}
 use Rattle.headways.specs.Related.{shares_itself}
+use Rattle.headways.proofs.Listing.{held_count}
 
 -- five bytes and more make a step
 some_step : (s : List ℕ) → 5 ≤ length s → 0 < length (steps_of s)
@@ -35,6 +35,6 @@ read_movements_have_steps text b h = rw h.says.gives.movements (all_have_steps 1
 
 pub sharing_is_clashing : SharingIsClashing
 sharing_is_clashing book memory steps a b =
-    let count : length (held book memory).movements ≡ count_of book = grind (arith, common_steps, book.counts.few, memory.long) in
+    let count = held_count book memory in
     let itself : within (count_of book) a ≡ true → sharing (held book memory) a a ≡ true = λ inside. shares_itself (held book memory) steps a (ap (λ k. within k a) count ∙ inside) in
     grind (arith, nat_tests, itself)
