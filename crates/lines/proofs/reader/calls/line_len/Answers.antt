@@ -1,4 +1,4 @@
-use Rattle.std.proofs.Common.{rules, tests, ◌≡◌, ◌≤◌, ◌==◌, Bool, List, length, position, unwrap_or, ap, ◌∙◌, arith}
+use Rattle.std.proofs.Common.{rules, tests, ◌≡◌, ◌≤◌, ◌==◌, Bool, List, length, position, unwrap_or, arith}
 use Rattle.std.specs.List.{position_or_len}
 use Rattle.std.proofs.lemmas.Iterator.{YieldsList-from_slice}
 use Rattle.std.proofs.lemmas.Iterator.Search.{position_from_yields_List}
@@ -16,4 +16,5 @@ returns-clause-value c =
     let text = c.args.text.now in
     let found : c.position.result ≡ position (λ x. x == line_end) text =
     position_from_yields_List (λ x. x == line_end) _ _ c.position.result c.position.ensures.ran (YieldsList-from_slice text c.iter.ensures.rest) (λ x b q k. search (rules, tests)) in
-    c.unwrap_or.ensures ∙ ap (λ o. unwrap_or o (length text)) found ∙ found_or_long (λ x. x == line_end) text
+    let all = found_or_long (λ x. x == line_end) text in
+    grind (arith, rules)
